@@ -3,10 +3,17 @@
 
 #include "osdp.h"
 
+/* A shared library that has this heap hands its names to no other one: each may have a heap of its own. */
+#ifdef __GNUC__
+#define OSDP_HIDDEN __attribute__((visibility("hidden")))
+#else
+#define OSDP_HIDDEN
+#endif
+
 /* Where there is no block, the pointer isn't null either, and nobody reads what it points to. */
 static unsigned char none;
 
-struct osdp_block rattle_alloc(size_t size, size_t align)
+OSDP_HIDDEN struct osdp_block rattle_alloc(size_t size, size_t align)
 {
     struct osdp_block given;
     given.block = malloc(size != 0 ? size : align);
@@ -17,7 +24,7 @@ struct osdp_block rattle_alloc(size_t size, size_t align)
     return given;
 }
 
-struct osdp_block rattle_realloc(void *block, size_t kept, size_t size, size_t align)
+OSDP_HIDDEN struct osdp_block rattle_realloc(void *block, size_t kept, size_t size, size_t align)
 {
     struct osdp_block given;
     (void)kept;
@@ -29,7 +36,7 @@ struct osdp_block rattle_realloc(void *block, size_t kept, size_t size, size_t a
     return given;
 }
 
-void rattle_dealloc(void *block)
+OSDP_HIDDEN void rattle_dealloc(void *block)
 {
     free(block);
 }

@@ -5,6 +5,13 @@
  * is large enough is taken, and free neighbours are joined. There is no lock: use it from one thread. Nothing is needed from outside. */
 #include "osdp.h"
 
+/* A shared library that has this heap hands its names to no other one: each may have a heap of its own. */
+#ifdef __GNUC__
+#define OSDP_HIDDEN __attribute__((visibility("hidden")))
+#else
+#define OSDP_HIDDEN
+#endif
+
 #ifndef OSDP_POOL
 #define OSDP_POOL 262144
 #endif
@@ -58,7 +65,7 @@ static struct osdp_block used(size_t at, size_t wanted)
     return given(true, &pool[at + 1]);
 }
 
-struct osdp_block rattle_alloc(size_t size, size_t align)
+OSDP_HIDDEN struct osdp_block rattle_alloc(size_t size, size_t align)
 {
     size_t wanted = size / 16 + (size % 16 != 0 || size == 0);
     (void)align;
@@ -73,12 +80,12 @@ struct osdp_block rattle_alloc(size_t size, size_t align)
     return given(false, pool);
 }
 
-void rattle_dealloc(void *block)
+OSDP_HIDDEN void rattle_dealloc(void *block)
 {
     ((union unit *)block - 1)->head.used = false;
 }
 
-struct osdp_block rattle_realloc(void *block, size_t kept, size_t size, size_t align)
+OSDP_HIDDEN struct osdp_block rattle_realloc(void *block, size_t kept, size_t size, size_t align)
 {
     struct osdp_block other = rattle_alloc(size, align);
     if (other.ok) {

@@ -86,9 +86,11 @@ void osdp_site_new(osdp_site *site, struct osdp_site_entry *entries, size_t coun
     site->count = count;
     site->bytes = bytes;
     site->pause = OSDP_SITE_PAUSE;
+    site->late = OSDP_SITE_LATE;
+    site->due = UINT64_MAX;
     for (size_t i = 0; i < count; i++) {
         entries[i].begins = entries[i].since = now;
-        entries[i].is_online = false;
+        entries[i].is_online = entries[i].is_left = false;
         entries[i].count = entries[i].done = 0;
     }
 }
@@ -145,6 +147,7 @@ bool osdp_site_heed(osdp_site *site, const struct osdp_report *report, uint64_t 
         return false;
     }
     struct osdp_site_entry *entry = &site->entries[report->entry];
+    entry->is_left = false;
     if (opens) {
         entry->done = 0;
     } else {
@@ -158,23 +161,26 @@ bool osdp_site_heed(osdp_site *site, const struct osdp_report *report, uint64_t 
     return true;
 }
 
-/* Orders that wait are taken back, and the session begins. At a moment that the panel refuses nothing is done: a call with no bytes asks whether it does. */
+/* The session begins, where none has, and the orders that wait are taken back. At a moment that the panel refuses nothing is done: a call with no bytes asks
+ * whether it does. */
 static bool begin_anew(osdp_panel *panel, size_t number, uint64_t now)
 {
     static struct osdp_message stale;
     if (osdp_panel_bytes(panel, NULL, 0, now) == OSDP_MOMENT_TOO_FAR) {
         return false;
     }
+    if (osdp_panel_begin(panel, number, now) != OSDP_OK) {
+        return true;
+    }
     while (osdp_panel_withdraw(panel, number, &stale) == OSDP_OK && stale.present) {
     }
-    (void)osdp_panel_begin(panel, number, now);
     return true;
 }
 
 /* What is wanted and not submitted yet goes to the panel, up to the first that it refuses. */
 static void refresh(struct osdp_site_entry *entry, osdp_panel *panel, size_t number)
 {
-    while (entry->is_online && entry->done < entry->count) {
+    while (entry->is_online && !entry->is_left && entry->done < entry->count) {
         const struct osdp_site_state *state = &entry->wanted[entry->done];
         if (osdp_panel_submit(panel, number, state->code, state->data, state->length) != OSDP_OK) {
             return;
@@ -212,13 +218,17 @@ bool osdp_site_is_refreshed(const osdp_site *site, size_t number)
     return number < site->count && site->entries[number].is_online && site->entries[number].done == site->entries[number].count;
 }
 
-uint64_t osdp_site_wait(const osdp_site *site, osdp_panel *panel, uint64_t now, uint64_t most)
+/* When the site or its panel is due; UINT64_MAX where neither is. */
+static uint64_t next_due(const osdp_site *site, osdp_panel *panel)
 {
     struct osdp_moment due;
     uint64_t first = osdp_site_next_deadline(site);
-    if (osdp_panel_next_deadline(panel, &due) == OSDP_OK && due.present && due.moment < first) {
-        first = due.moment;
-    }
+    return osdp_panel_next_deadline(panel, &due) == OSDP_OK && due.present && due.moment < first ? due.moment : first;
+}
+
+uint64_t osdp_site_wait(const osdp_site *site, osdp_panel *panel, uint64_t now, uint64_t most)
+{
+    uint64_t first = next_due(site, panel);
     if (first <= now) {
         return 0;
     }
@@ -227,35 +237,59 @@ uint64_t osdp_site_wait(const osdp_site *site, osdp_panel *panel, uint64_t now, 
 
 bool osdp_site_order(const osdp_site *site, osdp_panel *panel, size_t number, const struct osdp_message *command)
 {
-    return number < site->count && site->entries[number].is_online &&
+    return number < site->count && site->entries[number].is_online && !site->entries[number].is_left &&
            osdp_panel_submit(panel, number, command->code, command->data, command->length) == OSDP_OK;
 }
 
+void osdp_site_leave(osdp_site *site)
+{
+    for (size_t i = 0; i < site->count; i++) {
+        site->entries[i].is_left = site->entries[i].is_online;
+    }
+}
+
+void osdp_site_silence(const osdp_site *site, osdp_panel *panel, struct osdp_burst *burst)
+{
+    uint32_t address;
+    for (size_t i = 0; i < site->count && burst->length > 0; i++) {
+        if (site->entries[i].is_left && osdp_panel_address(panel, i, &address) == OSDP_OK && burst->bytes[1] == address) {
+            burst->length = 0;
+        }
+    }
+}
+
 /* Hands each report to the program, once it is heeded. */
-static void take_reports(osdp_site *site, osdp_panel *panel, uint64_t now, osdp_site_takes *takes)
+static void take_reports(osdp_site *site, osdp_panel *panel, uint64_t now, osdp_site_takes *takes, void *of)
 {
     static struct osdp_report report;
     while (osdp_panel_next_report(panel, &report) == OSDP_OK && report.kind != OSDP_REPORT_NONE) {
-        takes(&report, osdp_site_heed(site, &report, now), now);
+        takes(of, &report, osdp_site_heed(site, &report, now), now);
     }
 }
 
 void osdp_site_turn(
-    osdp_site *site, osdp_panel *panel, const uint8_t *bytes, size_t length, uint64_t now, osdp_site_takes *takes, struct osdp_burst *burst)
+    osdp_site *site, osdp_panel *panel, const uint8_t *bytes, size_t length, uint64_t now, osdp_site_takes *takes, void *of, struct osdp_burst *burst)
 {
-    if (osdp_panel_bytes(panel, bytes, length, now) == OSDP_MOMENT_TOO_FAR) {
+    bool stood_still = site->due < now && now - site->due > site->late;
+    if (osdp_panel_bytes(panel, bytes, stood_still ? 0 : length, now) == OSDP_MOMENT_TOO_FAR) {
         (void)osdp_panel_set_moment(panel, now);
-        (void)osdp_panel_bytes(panel, bytes, length, now);
+        stood_still = true;
     }
-    take_reports(site, panel, now, takes);
+    if (stood_still) {
+        osdp_site_leave(site);
+    }
+    take_reports(site, panel, now, takes, of);
     osdp_site_act(site, panel, now);
     burst->length = 0;
     (void)osdp_panel_tick(panel, now, burst);
-    take_reports(site, panel, now, takes);
+    osdp_site_silence(site, panel, burst);
+    take_reports(site, panel, now, takes, of);
+    uint64_t due = next_due(site, panel);
+    site->due = due > now ? due : now; /* what was ordered just now is due already */
 }
 
 /* Hands bytes to the device, until all are taken and nothing is said. */
-static osdp_status hear(osdp_device *device, const uint8_t *bytes, size_t length, uint64_t now, osdp_device_takes *takes)
+static osdp_status hear(osdp_device *device, const uint8_t *bytes, size_t length, uint64_t now, osdp_device_takes *takes, void *of)
 {
     static struct osdp_answer answer;
     osdp_size at = 0, taken;
@@ -266,21 +300,21 @@ static osdp_status hear(osdp_device *device, const uint8_t *bytes, size_t length
             return status;
         }
         if (answer.kind != OSDP_SAID_NONE) {
-            takes(&answer, now);
+            takes(of, &answer, now);
         }
     }
 }
 
-void osdp_device_turn(osdp_device *device, const uint8_t *bytes, size_t length, uint64_t now, osdp_device_takes *takes)
+void osdp_device_turn(osdp_device *device, const uint8_t *bytes, size_t length, uint64_t now, osdp_device_takes *takes, void *of)
 {
     static const uint8_t none[1] = { 0 };
     static struct osdp_answer answer;
-    if (hear(device, bytes, length, now, takes) == OSDP_MOMENT_TOO_FAR) {
+    if (hear(device, bytes, length, now, takes, of) == OSDP_MOMENT_TOO_FAR) {
         (void)osdp_device_set_moment(device, now); /* the bytes are left: an answer to them would keep what is too old from leaving */
     }
     if (osdp_device_tick(device, now, &answer) == OSDP_OK && answer.kind != OSDP_SAID_NONE) {
-        takes(&answer, now);
-        (void)hear(device, none, 0, now, takes);
+        takes(of, &answer, now);
+        (void)hear(device, none, 0, now, takes, of);
     }
 }
 
@@ -304,6 +338,9 @@ void osdp_color_for(uint8_t color, uint16_t tenths, struct osdp_message *command
 
 void osdp_sound(bool sounds, struct osdp_message *command)
 {
-    const struct osdp_buzzer buzzer = { 0, sounds ? OSDP_TONE_DEFAULT : OSDP_TONE_OFF, 5, 5, 0 };
+    struct osdp_buzzer buzzer = { 0, OSDP_TONE_OFF, 5, 5, 0 };
+    if (sounds) {
+        buzzer.tone = OSDP_TONE_DEFAULT;
+    }
     osdp_buzzer(&buzzer, command);
 }

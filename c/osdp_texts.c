@@ -1,5 +1,36 @@
-/* What statuses say, in words, and the version: plain C beside the archive, which gives no pointers. */
+/* What statuses say, in words, the version, and the sizes of structs: plain C beside the archive, which gives and takes no such texts. */
 #include "osdp.h"
+
+#define SIZE(name) { #name, sizeof(struct name) }
+
+/* Whether two texts are the same: nothing is needed of the C library here. */
+static int are_same(const char *text, const char *other)
+{
+    size_t at = 0;
+    while (text[at] != 0 && text[at] == other[at]) {
+        at++;
+    }
+    return text[at] == other[at];
+}
+
+osdp_size osdp_struct_size(const char *name)
+{
+    static const struct {
+        const char *name;
+        osdp_size size;
+    } structs[] = {
+        SIZE(osdp_message), SIZE(osdp_burst), SIZE(osdp_raw), SIZE(osdp_keypad), SIZE(osdp_formatted), SIZE(osdp_local_state), SIZE(osdp_states),
+        SIZE(osdp_product), SIZE(osdp_pd_id), SIZE(osdp_capability), SIZE(osdp_communication), SIZE(osdp_maker), SIZE(osdp_nak), SIZE(osdp_output),
+        SIZE(osdp_led_state), SIZE(osdp_led), SIZE(osdp_buzzer), SIZE(osdp_text), SIZE(osdp_panel), SIZE(osdp_panel_config), SIZE(osdp_moment),
+        SIZE(osdp_report), SIZE(osdp_device), SIZE(osdp_device_config), SIZE(osdp_answer), SIZE(osdp_monitor)
+    };
+    for (size_t at = 0; at < sizeof structs / sizeof structs[0]; at++) {
+        if (are_same(structs[at].name, name)) {
+            return structs[at].size;
+        }
+    }
+    return 0;
+}
 
 const char *osdp_version(void)
 {

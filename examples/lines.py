@@ -1,19 +1,14 @@
-"""What `panel.py` and `reader.py` share: their words, the lines that they take and print, and a program that speaks lines."""
+"""What `panel.py` and `reader.py` share: their words, and the lines that they take and print."""
 import os
+import select
 import signal
-import subprocess
 import sys
-import time
 
-CLOCK = getattr(time, "CLOCK_BOOTTIME", time.CLOCK_MONOTONIC)  # it goes on while the computer sleeps: a card of before its sleep is an old one
+from moments import Turns
+
 LONGEST = 8192  # how many characters a line has at most
 BAD_WORDS, FAILED, NO_PROGRAM = 2, 3, 127  # statuses
-STOPS = (signal.SIGINT, signal.SIGTERM)
-
-
-def moment():
-    """Milliseconds by a clock that never goes backwards."""
-    return int(time.clock_gettime(CLOCK) * 1000)
+STOPS = (signal.SIGINT, signal.SIGTERM, signal.SIGHUP)
 
 
 def stop(why, status=FAILED):
@@ -32,18 +27,33 @@ def tell(line):
         stop("standard output can't be written")
 
 
-def take_words(usage, least, option=None):
-    """The words, so many at least after an option and its value. `--help` prints the usage. Ctrl-C ends the example, which then tells what became of its orders."""
+def take_words(usage, least, options=None):
+    """The words after the options, so many at least. `options` has the default of each option beside `--late MS`, and gets what the words say: a flag has False, and
+    another one is followed by its value. `--help` prints the usage. Ctrl-C ends the example, which then tells what became of its orders."""
     for number in STOPS:
-        signal.signal(number, lambda number, _: sys.exit(128 + number))
+        if number != signal.SIGHUP or signal.getsignal(number) != signal.SIG_IGN:  # as under `nohup`
+            signal.signal(number, lambda number, _: sys.exit(128 + number))
     words = sys.argv[1:]
     if words in (["--help"], ["-h"]):
         tell(usage.strip())
         raise SystemExit(0)
-    rest = words[2:] if words[:1] == [option] else words
-    if len(rest) < least or rest[0].startswith("-"):
+    options = {} if options is None else options
+    while words and (words[0] == "--late" or words[0] in options):
+        name = words.pop(0)
+        value = True if options.get(name) is False else words.pop(0) if words else ""
+        if name == "--late":
+            take_late(value)
+        options[name] = value
+    if len(words) < least or words[0].startswith("-") or (options.get("--new") and not options.get("--keep", True)):
         stop("bad words: --help tells the right ones", BAD_WORDS)
     return words
+
+
+def take_late(word=""):
+    """Sets how late the example may be."""
+    Turns.late = number(word, "--late")
+    if not 100 <= Turns.late <= 60000:
+        stop(f"bad --late: {word} isn't from 100 to 60000 milliseconds", BAD_WORDS)
 
 
 def number(word, what):
@@ -51,35 +61,6 @@ def number(word, what):
     if not (word.isascii() and word.isdecimal()):
         stop(f"bad {what}: {word}", BAD_WORDS)
     return int(word)
-
-
-class Program:
-    """`osdp panel` or `osdp reader`, with its settings, some before and some after these. A first word with a `/` is the path of the program."""
-
-    def __init__(self, name, words, first=(), last=()):
-        path, words = (words[0], words[1:]) if words and "/" in words[0] else ("osdp", words)
-        try:
-            self.process = subprocess.Popen([path, name, *first, *words, *last], stdin=subprocess.PIPE, stdout=subprocess.PIPE, start_new_session=True)
-        except OSError:
-            stop(f"the program can't be started: {path}", NO_PROGRAM)
-
-    def call(self, line):
-        """Hands it one line. The lines of its answer; the last of them begins with `due` or `waiting`."""
-        answer = []
-        signal.pthread_sigmask(signal.SIG_BLOCK, STOPS)  # so that the program isn't left in the middle of an answer
-        try:
-            self.process.stdin.write(line.encode() + b"\n")
-            self.process.stdin.flush()
-        except OSError:
-            pass  # it has ended, and its output ends too
-        while not answer or not answer[-1].startswith(("due ", "waiting ")):
-            text = self.process.stdout.readline()
-            if not text:  # it has told why, where its status is one of its faults
-                status = self.process.wait()
-                raise SystemExit(status) if status in (2, 3, 4) else stop("the program has ended")
-            answer.append(text.decode().rstrip("\n"))
-        signal.pthread_sigmask(signal.SIG_UNBLOCK, STOPS)
-        return answer
 
 
 class Lines:
@@ -97,3 +78,9 @@ class Lines:
                 yield line.decode()
             else:
                 tell("refused line")
+
+    def refuse(self):
+        """Refuses all lines that are there: they came while the program stood still, and nobody knows when."""
+        while not self.is_over and select.select([0], [], [], 0)[0]:
+            for line in self.read():
+                tell(f"not taken {line}: it came while the program stood still; type it again")

@@ -1,5 +1,5 @@
 """The outputs of `reader.py`."""
-from lines import moment
+from moments import moment
 
 
 class Output:
@@ -20,3 +20,19 @@ class Output:
         elif control in (1, 2, 3, 4):
             self.for_good = control in (2, 4)
             self.until = 0 if control in (1, 2) else self.until
+
+
+class Outputs:
+    """Eight outputs."""
+
+    def __init__(self):
+        self.each = [Output() for _ in range(8)]
+
+    def switch(self, records):
+        """Does what an OUT says. One of an output that isn't here was refused."""
+        for output, control, time in (map(int, record.split(":")) for record in records):
+            self.each[output].switch(control, time)
+
+    def states(self):
+        """A byte in digits for each output: 01 where it is on."""
+        return "".join("01" if output.is_on() else "00" for output in self.each)

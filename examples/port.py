@@ -4,7 +4,8 @@ import os
 import select
 import termios
 
-from lines import stop
+from lines import stop, tell
+from moments import Turns
 
 for end in range(3):  # a stream that is closed is over or fails from now on: else the port would take its number, and what is told would go out on the line
     try:
@@ -25,6 +26,7 @@ class Port:
     """A serial port. Where it fails the example ends."""
 
     def __init__(self, path, rate):
+        self.turns, self.rate = Turns(), rate
         try:  # without blocking: a read that waits for bytes which another program has taken would wait for ever
             self.end = os.open(path, os.O_RDWR | os.O_NOCTTY | os.O_NONBLOCK)
         except OSError as error:
@@ -61,30 +63,36 @@ class Port:
     def can_have(self, rate):
         """Whether the port takes this rate: it is set to it, and back."""
         before = termios.tcgetattr(self.end)
-        takes = self.set_rate(rate)
-        if takes:
-            termios.tcsetattr(self.end, termios.TCSADRAIN, before)
-        return takes
+        return self.set_rate(rate) and termios.tcsetattr(self.end, termios.TCSADRAIN, before) is None
 
     def write(self, burst):
+        """Writes a packet of this turn. One that would be late isn't written: then it is as if the line had lost it."""
         try:
-            while burst:
+            while burst and not self.turns.is_late():
                 select.select([], [self.end], [], 1)
                 burst = burst[os.write(self.end, burst):]
         except OSError:
             stop("the port can't be written")
 
     def wait(self, lines, seconds):
-        """Waits so many seconds, or until something comes: the bytes of the port, and the lines that are given."""
-        ready = select.select([self.end] + ([] if lines.is_over else [0]), [], [], seconds)[0]
-        read = b""
-        if self.end in ready:
-            try:
-                read = os.read(self.end, PIECE)
-            except BlockingIOError:
-                ready.remove(self.end)  # another program has taken the bytes
-            except OSError:
-                pass
-            if self.end in ready and not read:
-                stop("the port can't be read")
-        return read, lines.read() if 0 in ready else ()
+        """Waits so many seconds, or until something comes, and begins a turn with all that is there: the bytes of the port, in pieces, and the lines that are given.
+        After the program stood still no line is given, since nobody knows when it was typed."""
+        ready = self.turns.wait([self.end] + ([] if lines.is_over else [0]), seconds)
+        read = self.read() if self.end in ready or self.turns.stood_still else []
+        self.turns.stood_still = self.turns.stood_still or self.turns.is_late()
+        if self.turns.stood_still:
+            tell("stood still")
+            lines.refuse()
+        return read, lines.read() if 0 in ready and not self.turns.stood_still else ()
+
+    def read(self):
+        """The pieces that have come; none where another program has taken them. A port that is gone gives an end, or a fault."""
+        read = []
+        try:
+            while piece := os.read(self.end, PIECE):
+                read.append(piece)
+        except BlockingIOError:
+            return read
+        except OSError:
+            pass
+        return read or stop("the port can't be read")

@@ -6,8 +6,8 @@
  * and it is not proved. `./install` puts the archive in place as libosdp.a, with a heap over malloc in it:
  * cc FILE $(pkg-config --cflags --libs osdp).
  *
- * Nothing here reads, writes, sleeps or keeps a clock. The program reads its port, takes the moment after the read, hands both
- * in, and writes the bytes that it is given.
+ * Nothing here reads, writes, sleeps or keeps a clock. The program waits for bytes, takes the moment, reads all that is there,
+ * hands both in, and writes the bytes that it is given.
  *
  * Words.      A machine is a panel, a device or a monitor. A burst is the bytes of one packet that is to be written. A run is the bytes
  *             that come without a silence as long as the setting `gap`. An entry is the number of a device in its panel. An exchange
@@ -26,9 +26,8 @@
  *             a reason has the meaning that stands at `osdp_status`.
  * Writing.    A struct is written whole, except for its arrays: of an array as many bytes are written as its length says, and the
  *             others stay as they were. Nothing beyond a struct is written. No struct that a call reads or writes has padding.
- * Heap.       `osdp_panel_new` takes 6,920 bytes in three blocks. `osdp_panel_add` takes 3,059 bytes, and 1,435 for each command that may
- *             wait, in four blocks. With `poll_between_orders` the first takes 1,280 bytes more, in one more block, and the second 1,435
- *             more for each command that may wait, in two more blocks. `osdp_device_new` takes 11,000 bytes, the capabilities, and 1,443
+ * Heap.       `osdp_panel_new` takes 6,880 bytes in three blocks. `osdp_panel_add` takes 3,059 bytes, and 1,435 for each command that may
+ *             wait, in four blocks. `osdp_device_new` takes 11,000 bytes, the capabilities, and 1,443
  *             for each event that may wait, in five blocks, or in four without capabilities. Where a room in bytes is given, 2 bytes
  *             for each command and the room stand in place of the 1,435, and the 3,059 are the most. For a device 10 bytes for each
  *             event and the room stand in place of the 1,443. `free` gives all back. No other call of a panel or a device takes
@@ -60,33 +59,42 @@
  *   each. Make them static where a task's stack is small.
  * - `rattle_alloc`, `rattle_realloc` and `rattle_dealloc` (below) are a heap, and `memcpy`, `memmove` and `memset` are those of
  *   C: else anything may happen.
- * - Moments are taken after the read, from a clock that doesn't go backwards. Where a moment is too early, gaps and waits end too
- *   late. Where it is too late, they end too early: packets are cut in two, and answers that come are not waited for. A moment that
+ * - Moments are taken after the wait and before the read, from a clock that doesn't go backwards, and goes on while the host
+ *   sleeps. So where the program stands still in between, what is read is no older than the moment says. Where a moment is too
+ *   early, gaps and waits end too late. Where it is too late, they end too early: packets are cut in two, and answers that come are not waited for. A moment that
  *   lies more than `clock_limit` after the greatest one seen is refused (OSDP_MOMENT_TOO_FAR), and nothing has changed: the clock
  *   has failed, or the host has slept. If it has slept, hand the moment to `osdp_panel_set_moment` or `osdp_device_set_moment`, and
  *   go on. The panel then likely reports its sessions as lost. The first moment may be any, so take it with care: until the clock
  *   reaches the greatest moment seen, time stands still for the machine.
- * - Bursts are written at once, whole and in their order: else the other end reads a packet that was never meant, or none.
+ * - Bursts are written at once, whole and in their order: else the other end reads a packet that was never meant, or none. One that
+ *   can't be written at once isn't written at all: for the machine it is lost on the line. A program that stood still, or that is late
+ *   with a burst, says nothing more to the device until its session is lost: else an order of long ago goes out (osdp_site.h).
  * - Each machine is freed: else its memory is leaked.
  *
- * What is promised of a line on which one panel speaks, where both ends are these machines. In each session orders are taken once
- * and in order, and each that is settled has the answer that the device gave. Events are reported once and in order, except those
- * that a restart of the device threw away, and those that its program withdrew or let lapse. No order that the panel accepted is
- * taken twice. This holds whatever calls are made, at whatever moments, and however bytes are cut. docs/HEADLINE.md has the promise
- * in full, and under "What is asked" its premises. docs/PROGRAMS.md has what a program does for each. Above all `quiet_wait` is more
- * than twice the longest time that a packet takes until it is read, and addresses are given by the rule for addresses there.
+ * What is promised of a line on which one panel speaks, where both ends are these machines and the premises hold. No order is taken
+ * twice. In each session orders are taken in order, and each that is settled has the answer that the device gave. In each session an
+ * event is reported once at most, and in order. None is passed over but those that a restart of the device threw away, and those that
+ * its program withdrew or let lapse. This holds whatever calls are made, at whatever moments, and however bytes are cut. Nothing knows how old an order is: one
+ * that goes out late is taken late. docs/HEADLINE.md has the promise in full, and under "What is asked" its premises. docs/PROGRAMS.md
+ * has what a program does for each. Above all `quiet_wait` is more than twice the longest time that a packet takes until it is read,
+ * and addresses are given by the rule for addresses there.
  */
 #ifndef OSDP_H
 #define OSDP_H
 
-/* The product's version. */
+/* The product's version; and as a number, 10,000 for each whole version, 100 for the part after it and 1 for the last one. */
 #define OSDP_VERSION "0.1.0"
+#define OSDP_VERSION_NUMBER 100
 
 #include <stdbool.h>
 #include <stddef.h>
 #include <stdint.h>
 
 #ifdef __cplusplus
+#if defined __GNUC__ && !defined __clang__
+#pragma GCC diagnostic push
+#pragma GCC diagnostic ignored "-Wshadow" /* some structs have the name of the call that makes a message of them */
+#endif
 extern "C" {
 #endif
 
@@ -169,8 +177,7 @@ typedef enum osdp_status {
     /* B6: the address of a COMSET is 127 or above, which no device has. */
     OSDP_ADDRESS_OUT_OF_RANGE = 26,
 
-    /* C3: as many commands wait as there is room for; or there is no room for the bytes of this one beside theirs and those of the command on its way; or, with
-       `poll_between_orders`, a COMSET would have to wait for a POLL: order it again later. */
+    /* C3: as many commands wait as there is room for; or there is no room for the bytes of this one beside theirs and those of the command on its way. */
     OSDP_COMMANDS_FULL = 33,
     /* C4: the command is a POLL, which the panel sends by itself. */
     OSDP_POLL_SUBMITTED = 34,
@@ -199,6 +206,13 @@ const char *osdp_status_text(osdp_status status);
 
 /* The version of the library that is linked, in the form of OSDP_VERSION. Valid for good. In c/osdp_texts.c, and in libosdp.a. */
 const char *osdp_version(void);
+
+/*
+ * How many bytes a struct of this page has in the library that is linked, by its name, such as "osdp_report"; 0 where there is none of that name. It is for
+ * programs that declare the structs by themselves, as in another language: where a size is another one, the library would write beyond theirs. A struct keeps
+ * its size as long as the shared library keeps its number (libosdp.so.0). In c/osdp_texts.c, and in libosdp.a.
+ */
+osdp_size osdp_struct_size(const char *name);
 
 /* ---- What both ends share ---- */
 
@@ -709,7 +723,7 @@ enum {
     OSDP_CHECK_CRC = 1
 };
 
-/* The settings of a panel. Times are in milliseconds, 1 to 3,600,000 where nothing else is said. 44 bytes. */
+/* The settings of a panel. Times are in milliseconds, 1 to 3,600,000 where nothing else is said. 40 bytes. */
 struct osdp_panel_config {
     /* Which check the packets of the panel end with: OSDP_CHECK_SUM or OSDP_CHECK_CRC. */
     uint32_t check;
@@ -731,18 +745,11 @@ struct osdp_panel_config {
     uint32_t capacity;
     /* How far a moment may lie after the greatest one seen, in milliseconds; 0 stands for a day. Each number is allowed. */
     uint32_t clock_limit;
-    /*
-     * 0: commands go out one after the other. 1: between two commands of a device a POLL asks it for its events, so that commands which come as fast as they
-     * go keep none of its cards waiting. No other number is allowed. With 1 a command that comes before that POLL waits in the panel; it is counted and
-     * withdrawn as any that waits. A COMSET that would have to wait so is refused with OSDP_COMMANDS_FULL. It takes memory for one more queue of commands for
-     * each device.
-     */
-    uint32_t poll_between_orders;
 };
 
 /*
  * Writes the default settings: `check` OSDP_CHECK_CRC, `reply_wait` 200, `poll_interval` 50, `sends` 3, `busy_wait` 50, `busy_limit` 20, `quiet_wait` 400,
- * `gap` 20, `capacity` 64, `clock_limit` a day, and `poll_between_orders` 0.
+ * `gap` 20, `capacity` 64, and `clock_limit` a day.
  */
 void osdp_panel_defaults(struct osdp_panel_config *config);
 
@@ -785,9 +792,9 @@ OSDP_CHECKED osdp_status osdp_panel_add(osdp_panel *panel, uint32_t address, osd
 OSDP_CHECKED osdp_status osdp_panel_begin(osdp_panel *panel, osdp_size entry, uint64_t now);
 
 /*
- * Puts a command after those that wait for a device, whether or not its session has begun. It is copied: `data` has `length` bytes. A report says what becomes
- * of it: OSDP_REPORT_SETTLED, OSDP_REPORT_MOVED, OSDP_REPORT_UNREAD or OSDP_REPORT_LOST. A command that waits while the session is closed goes out once a
- * session opens, however late: `osdp_panel_withdraw` takes it back before.
+ * Puts a command after those that wait for a device, whether or not its session has begun. It is copied: `data` has `length` bytes. Once it was
+ * sent a report says what becomes of it: OSDP_REPORT_SETTLED, OSDP_REPORT_MOVED, OSDP_REPORT_UNREAD or OSDP_REPORT_LOST. It goes out when its turn comes, also
+ * in a later session, however late: before, `osdp_panel_withdraw` takes it back. It is gone where the panel is freed or loses power before.
  *
  * OSDP_NO_MACHINE. OSDP_UNKNOWN_CODE (M1), OSDP_BAD_LENGTH (M2), OSDP_BAD_COUNT (M3): the code and data are those of no command. OSDP_NO_ENTRY (B4).
  * OSDP_POLL_SUBMITTED (C4): it is a POLL. OSDP_ADDRESS_OUT_OF_RANGE (B6): it is a COMSET to an address above 126, where the device would be out of reach.
@@ -806,7 +813,8 @@ OSDP_CHECKED static inline osdp_status osdp_panel_submit_text(osdp_panel *panel,
 
 /*
  * Takes back the command that has waited longest for a device, and writes it to `command`. It won't be sent, no report tells it, and an address that it
- * reserved is free. Where none waits, or where the session has begun, nothing is taken back, and `present` is 0.
+ * reserved is free. So it is also while a session goes on. Where none waits, or where a command of the device is on its way, nothing is taken back, and
+ * `present` is 0. One is on its way from its first packet until a report tells what became of it.
  *
  * OSDP_NO_MACHINE. OSDP_NO_ENTRY (B4). After a refusal `command` stays as it was.
  */
@@ -1315,7 +1323,7 @@ struct osdp_block {
 
 /*
  * The heap, which the program supplies. c/heap_malloc.c has one over malloc, and c/heap_pool.c one over a fixed pool. libosdp.a has the one over malloc; a heap
- * of the program's own takes its place. The toolchain has chosen the names.
+ * of the program's own takes its place. The toolchain has chosen the names. A shared library that has one of these heaps hands its names on to no other one.
  *
  * `rattle_alloc` gives a block of `size` bytes at a multiple of `align`, which is a power of two up to 16; or `ok` is false. `rattle_realloc` gives a block the
  * size of `size` bytes. Its first `kept` bytes are as they were, and it may move. Where its `ok` is false the block is as it was. Only the calls of a monitor
@@ -1546,6 +1554,9 @@ static inline osdp_status osdp_monitor_next_text(osdp_monitor *monitor, char *te
 
 #ifdef __cplusplus
 }
+#if defined __GNUC__ && !defined __clang__
+#pragma GCC diagnostic pop
+#endif
 #endif
 
 #endif

@@ -15,7 +15,7 @@
  *     osdp_site_new(&site, entries, 3, OSDP_SITE_ANY_LENGTH, now);      the entries are those of the panel, in the order of adding
  *     osdp_site_wants(&site, door, &red);
  *     for (;;) {
- *         .. waits for bytes, at most until the earlier of osdp_panel_next_deadline and osdp_site_next_deadline ..
+ *         .. waits for bytes, at most until the earlier of osdp_panel_next_deadline and osdp_site_next_deadline, takes the moment, and reads all that is there ..
  *         osdp_panel_bytes(&panel, bytes, length, now);
  *         while (osdp_panel_next_report(&panel, &report) == OSDP_OK && report.kind != OSDP_REPORT_NONE) {
  *             if (osdp_site_heed(&site, &report, now)) { .. it is online or offline from now on .. }
@@ -38,6 +38,8 @@ enum {
     OSDP_SITE_ROOM = 16,
     /* From a session that has ended to the next one, in milliseconds, where the program sets no other pause. */
     OSDP_SITE_PAUSE = 1000,
+    /* How late a turn may come, in milliseconds, where the program sets no other time. */
+    OSDP_SITE_LATE = 5000,
     /* The data of a state, in bytes, at most: those of the longest text. */
     OSDP_SITE_MOST_DATA = 261,
     /* The `bytes` of a site over a panel of `osdp_panel_new`, which has room for each command, however long it is. */
@@ -75,18 +77,23 @@ struct osdp_site_entry {
     /* Since when it is online, or offline. */
     uint64_t since;
     bool is_online;
+    /* Whether its session is let end (`osdp_site_leave`). */
+    bool is_left;
     /* How many states are wanted, and how many of these, from the first on, were submitted since the session opened. */
     uint16_t count, done;
     struct osdp_site_state wanted[OSDP_SITE_ROOM];
 };
 
-/* A site. `pause` may be set by the caller. */
+/* A site. `pause` and `late` may be set by the caller. */
 typedef struct osdp_site {
     struct osdp_site_entry *entries;
     size_t count;
     /* As handed to `osdp_site_new`. */
     size_t bytes;
     uint32_t pause;
+    uint32_t late;
+    /* When the turn after the last one was due; UINT64_MAX where there was none. */
+    uint64_t due;
 } osdp_site;
 
 /*
@@ -133,35 +140,52 @@ bool osdp_site_is_refreshed(const osdp_site *site, size_t entry);
 uint64_t osdp_site_wait(const osdp_site *site, osdp_panel *panel, uint64_t now, uint64_t most);
 
 /*
- * An order: a command that is submitted once. Whether the panel took it. One for a device that is offline is refused, since it would be stale once that is
- * online again.
+ * An order: a command that is submitted once. Whether the panel took it. One for a device that is offline, or whose session is let end, is refused, since it would be
+ * stale once that is online again.
  */
 bool osdp_site_order(const osdp_site *site, osdp_panel *panel, size_t entry, const struct osdp_message *command);
+
+/*
+ * Lets each session end that is open, as there is no call for it: nothing more is said to its device, until it is lost. For a program that stood still, or that has
+ * not written a burst since it was late: the panel would send an order of long ago again, those that wait would go out late, and a device would repeat a card of long
+ * ago. The order that was under way is told lost, and those that wait are taken back before the next session begins.
+ */
+void osdp_site_leave(osdp_site *site);
+
+/* Leaves a burst out where it is for a device whose session is let end. `osdp_site_turn` does this by itself. */
+void osdp_site_silence(const osdp_site *site, osdp_panel *panel, struct osdp_burst *burst);
 
 /* ---- A turn of a loop ---- */
 
 /*
  * What a program does with a report, after the site has heeded it. `has_changed`: the device is online or offline by it and wasn't before; its entry of the site
- * says which.
+ * says which. `of` is what the program handed to `osdp_site_turn`: its own, such as the line that the panel belongs to; it may be null.
  */
-typedef void osdp_site_takes(const struct osdp_report *report, bool has_changed, uint64_t now);
+typedef void osdp_site_takes(void *of, const struct osdp_report *report, bool has_changed, uint64_t now);
 
 /*
- * One turn of a panel's loop, after each read of its port: the bytes that it gave, and the moment after it. Each report is heeded and then taken by the program, what
- * the program wants and orders then is submitted, and what is due is written to `burst`, which goes out before the next turn. A moment that lies too far after the
- * greatest one seen, as after a host has slept, is seen all the same (`osdp_panel_set_moment`).
+ * One turn of a panel's loop: the program has waited for bytes, has taken the moment, and then has read all that was there. Each report is heeded and then taken by the
+ * program, what the program wants and orders then is submitted, and what is due is written to `burst`, which goes out before the next turn. The program takes the moment
+ * once more right before it writes: a burst that is late isn't written, and then it calls `osdp_site_leave`.
+ *
+ * Where the turn comes more than `late` milliseconds after it was due, the program stood still: its computer slept, or it was stopped, or what it did took so long. Then
+ * the bytes are left, as a line may lose them, since a card among them may be of long ago, and each open session is let end. A moment that lies too far after the
+ * greatest one seen (OSDP_MOMENT_TOO_FAR) is seen all the same by `osdp_panel_set_moment`, and is such a turn too.
  */
 void osdp_site_turn(
-    osdp_site *site, osdp_panel *panel, const uint8_t *bytes, size_t length, uint64_t now, osdp_site_takes *takes, struct osdp_burst *burst);
+    osdp_site *site, osdp_panel *panel, const uint8_t *bytes, size_t length, uint64_t now, osdp_site_takes *takes, void *of, struct osdp_burst *burst);
 
-/* What a program does with what its device says: it acts, and then writes `answer->burst`. What it sets for a command that is pending is answered. */
-typedef void osdp_device_takes(const struct osdp_answer *answer, uint64_t now);
+/*
+ * What a program does with what its device says: it acts, and then writes `answer->burst`. What it sets for a command that is pending is answered. `of` is what it
+ * handed to `osdp_device_turn`.
+ */
+typedef void osdp_device_takes(void *of, const struct osdp_answer *answer, uint64_t now);
 
 /*
  * The same of a device's loop: the bytes are handed over until all are taken and nothing is said, and then what the moment brings. Where the moment lies too far
  * ahead the bytes are left, and a panel sends them again: so events that have become too old leave first (`osdp_device_expire_event`, before the next turn).
  */
-void osdp_device_turn(osdp_device *device, const uint8_t *bytes, size_t length, uint64_t now, osdp_device_takes *takes);
+void osdp_device_turn(osdp_device *device, const uint8_t *bytes, size_t length, uint64_t now, osdp_device_takes *takes, void *of);
 
 /* ---- Commands as panels mostly give them ---- */
 

@@ -7,9 +7,9 @@ _osdp_words() {
     monitor) echo '--raw --osdpcap --xxd --stamped --hex --packets --talk --standard --recorded --times --clock --json --gap --every' ;;
     check) echo '--raw --osdpcap --xxd --stamped --hex --join' ;;
     make) echo 'sum crc' ;;
-    panel) echo 'check reply-wait poll-interval sends busy-wait busy-limit quiet-wait gap capacity poll-between-orders' ;;
+    panel) echo 'check reply-wait poll-interval sends busy-wait busy-limit quiet-wait gap capacity' ;;
     reader) echo 'address vendor model version serial firmware cap room gap expire presence' ;;
-    plan) echo 'readers rate check longest answer hold late orders poll-between-orders reply-wait poll-interval sends busy-wait busy-limit quiet-wait' ;;
+    plan) echo 'readers rate check longest answer hold late orders reply-wait poll-interval sends busy-wait busy-limit quiet-wait' ;;
     test) echo '--tap panel script' ;;
     help) echo 'show monitor check make sim panel reader plan test' ;;
   esac
@@ -23,20 +23,40 @@ _osdp() {
 }
 
 _osdp_port() {
-  local word=${COMP_WORDS[COMP_CWORD]} before=${COMP_WORDS[COMP_CWORD - 1]} ports
+  local word=${COMP_WORDS[COMP_CWORD]} before=${COMP_WORDS[COMP_CWORD - 1]} command= each
+  for each in "${COMP_WORDS[@]:1:COMP_CWORD - 1}"; do
+    case $each in monitor | show | panel | reader | find | test | trace | page) command=${command:-$each} ;; esac
+  done
   case $before in
     --keep | --trace | --osdp) COMPREPLY=($(compgen -f -- "$word")); return ;;
-    --address | --every | --size | --set-address | --set-rate | --may) COMPREPLY=(); return ;;
+    --address | --every | --late | --size | --may | --set-address | --set-rate | --listen | --alone) COMPREPLY=(); return ;;
   esac
   if [[ $word == -* ]]; then
-    COMPREPLY=($(compgen -W '--all --address --every --live --json --keep --trace --size --osdpcap --set-address --set-rate --may --sum --tap --plain --osdp --help --version' -- "$word"))
+    case $command in
+      '') each='--all --address --every --live --json --keep --new --late --trace --size --osdpcap --may --go-on --sum --tap --set-address --set-rate --demo --listen --alone --plain --osdp --help --version' ;;
+      monitor) each='--all --address --every --live --json --plain --osdp' ;;
+      show) each='--all --address --plain --osdp' ;;
+      panel) each='--all --keep --new --late --trace --size --osdpcap --plain --osdp' ;;
+      reader) each='--all --keep --new --late --trace --size --osdpcap --plain --osdp' ;;
+      find) each='--set-address --set-rate --plain --osdp' ;;
+      test) each='--trace --may --go-on --sum --tap --plain --osdp' ;;
+      trace) each='--size --osdpcap --plain --osdp' ;;
+      page) each='--trace --demo --listen --alone --plain --osdp' ;;
+    esac
+    COMPREPLY=($(compgen -W "$each" -- "$word"))
+  elif [[ $before == test ]]; then
+    COMPREPLY=($(compgen -W 'device panel script' -- "$word"))
+  elif [[ $command == trace || $before == script ]]; then
+    COMPREPLY=($(compgen -f -- "$word"))
   elif [[ $before == /dev/* || $before == *://* ]]; then
     COMPREPLY=($(compgen -W '9600 19200 38400 57600 115200 230400' -- "$word"))
-  elif [[ $before =~ ^[0-9]+$ ]]; then
-    COMPREPLY=($(compgen -W 'monitor show panel reader find test trace' -- "$word"))
+  elif [[ $command == '' && ( $before =~ ^[0-9]+$ || $before == help ) ]]; then
+    COMPREPLY=($(compgen -W 'monitor show panel reader find test trace page' -- "$word"))
+  elif [[ $command == '' ]]; then
+    each=$(compgen -G '/dev/ttyUSB*'; compgen -G '/dev/ttyACM*'; compgen -G '/dev/serial/by-id/*')
+    COMPREPLY=($(compgen -W "$each" -- "$word"))
   else
-    ports=$(compgen -G '/dev/ttyUSB*'; compgen -G '/dev/ttyACM*'; compgen -G '/dev/serial/by-id/*')
-    COMPREPLY=($(compgen -W "$ports" -- "$word"))
+    COMPREPLY=()
   fi
 }
 

@@ -42,11 +42,16 @@ for heap in malloc pool; do
   build "heap_$heap" tests/c/heap.c "c/heap_$heap.c" -DOSDP_POOL=131072 "${checked[@]}" && passes "$work/heap_$heap" "$heap"
 done
 # what stands beside the archive compiles without a word as C99, C11 and C++
-for language in "-std=c99 -xc" "-std=c11 -xc" "-std=c++17 -xc++"; do
+for language in "-std=c99 -xc" "-std=c11 -xc" "-std=c++11 -xc++" "-std=c++17 -xc++"; do
   for file in heap_malloc heap_pool osdp_site osdp_texts; do
-    "$CC" $language -Wall -Wextra -Wpedantic -Werror -Iinclude -c -o "$work/beside.o" "c/$file.c" 2>"$work/said" ||
+    "$CC" $language -Wall -Wextra -Wpedantic -Wshadow -Wcast-qual -Wconversion -Wsign-conversion -Werror -Iinclude -c -o "$work/beside.o" "c/$file.c" 2>"$work/said" ||
       { cat "$work/said"; fail "$file.c as $language says something"; }
   done
+done
+# a shared library that is made of the archive and a heap hands on none of the heap's names, which another library may have too
+for heap in malloc pool; do
+  passes "$CC" -shared -fPIC -Iinclude -o "$work/shared.so" "c/heap_$heap.c" -Wl,--whole-archive "$archive" -Wl,--no-whole-archive &&
+    nm -D --defined-only "$work/shared.so" | grep rattle_ && fail "a shared library with heap_$heap.c hands on its heap"
 done
 # a status that isn't looked at is warned of where the program asks for that, and not else; also one of a call that the header itself has
 cat >"$work/ignores.c" <<'CODE'
@@ -65,10 +70,12 @@ for language in "-std=c99 -xc" "-std=c11 -xc" "-std=c2x -xc" "-std=c++11 -xc++" 
     grep -q unused-result "$work/said" || fail "another warning as $language: $call"
   done
 done
-# parts of the examples, which need no archive: a port that hasn't a rate, bytes of long ago, and files that are written where they would change
-build ports tests/c/ports.c examples/c/{port,owner}.c -Iexamples/c "${checked[@]}" -Wl,--wrap=clock_gettime,--wrap=tcsetattr,--wrap=write,--wrap=ppoll && passes "$work/ports"
-mkdir "$work"/{places,journals} && build kept tests/c/kept.c examples/c/kept.c -Iexamples/c "${checked[@]}" -Wl,--wrap=fsync && passes "$work/kept" "$work/places"
-build journal tests/c/journal.c examples/c/{journal,kept}.c -Iexamples/c "${checked[@]}" -Wl,--wrap=ferror,--wrap=fsync,--wrap=write && passes "$work/journal" "$work/journals"
+# parts of the examples, which need no archive: a port that hasn't a rate, bytes of long ago, and stores that are written where they would change
+build ports tests/c/ports.c examples/c/{port,owner}.c -Iexamples/c "${checked[@]}" -Wl,--wrap=clock_gettime,--wrap=tcsetattr,--wrap=read,--wrap=write,--wrap=ppoll && passes "$work/ports"
+mkdir "$work/stores" && build store tests/c/store.c examples/c/{store,kept,ledger}.c -Iexamples/c "${checked[@]}" -lsqlite3 && passes "$work/store" "$work/stores" &&
+  build later tests/c/store.c examples/c/{store,kept,ledger}.c -Iexamples/c "-DSTORE_SQL=\"$PWD/tests/c/store_next.h\"" -DLATER "${checked[@]}" -lsqlite3 &&
+  passes "$work/later" "$work/stores" upgraded && passes "$work/store" "$work/stores" upgraded
+passes tools/store_sql # each copy of the schema is the same
 build hands tests/c/hands.c "${checked[@]}" && passes "$work/hands"
 build texts tests/c/texts.c c/osdp_texts.c && passes "$work/texts"
 build structs tests/c/structs.c c/heap_malloc.c "$archive" && passes "$work/structs"
@@ -123,7 +130,7 @@ for file in examples/c/*.c; do
 done
 passes python3 tests/c_monitor.py "$work/monitor_checked" "$work/listen"
 for words in "listen" "listen /dev/null 9600 gap 30" "panel" "panel /dev/null 9600 5 gap" "panel /dev/null 9600 5 check none" "reader /dev/null 9600 cap 1:2" "reader /dev/null" \
-  "door_panel /dev/null 9600 address 7" "door_device /dev/null 9600 address 7" "keypad_reader /dev/null 9600 5 gap 30" "stored_panel /dev/null /dev/null 9600 a b" "three_doors /dev/null 9600 a b"; do
+  "door_panel /dev/null 9600 address 7" "door_device /dev/null 9600 address 7" "keypad_reader /dev/null 9600 5 gap 30" "stored_panel /dev/null /dev/null 9600 a b" "stored_panel --keep /dev/null /dev/null 9600" "three_doors /dev/null 9600 a b"; do
   "$work/"$words >"$work/said" 2>&1
   [ $? -eq 2 ] || fail "$words: the words are not refused"
 done
@@ -136,6 +143,16 @@ in_rust build --no-default-features
 in_rust clippy --all-targets -- -D warnings
 in_rust test
 in_rust run --example session
+# an example whose standard error nobody reads ends with its status, and not by a panic
+passes python3 -c "
+import os, subprocess, sys
+read, write = os.pipe()
+os.close(read)
+for words, status in ((['x'], 2), (['/nowhere', '9600'], 1), (['/dev/null', 'fast'], 2)):
+    ended = subprocess.run([sys.argv[1], *words], stderr=write, stdout=subprocess.DEVNULL).returncode
+    if ended != status:
+        sys.exit(f'{words}: status {ended}')
+" "$work/target/debug/examples/door_panel"
 # without the archive the crate is checked, and its pages and their code are made
 export OSDP_C_LIB_DIR=$work/none
 in_rust check --all-targets

@@ -76,7 +76,6 @@ def packets_in(run):
 # ---- which data a message may have
 
 
-
 def is_counted(data, at, least):
     return len(data) >= least and data[at] == len(data) - least
 

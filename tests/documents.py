@@ -261,7 +261,7 @@ def judge_quotes(page, begun, least, after_words):
     """A page: its quotes are the definitions that it begins with, and those that they name, as they stand in the files, and its words are what these name besides.
     Its table of words ends before a heading, if one comes."""
     text = (TOP / page).read_text()
-    quoted, names = {}, set()
+    quoted = {}
     for file, block in re.findall(r"^From `([^`]+)`:\n\n```antt\n(.*?)```$", text, re.M | re.S):
         there = [without_comments(part) for part in paragraphs((TOP / file).read_text())]
         for part in paragraphs(block.strip("\n")):
@@ -371,7 +371,7 @@ def judge_messages():
 
 def plain_texts():
     """What is written for people: pages, manual pages and scripts."""
-    for folder in ("", "docs", "man", "tests", "tests/c", "tests/rows", "tools", "bench", "c", "demo", "examples", "examples/c", "include", "port", "port/osdp_port", "python", "python/osdp", "python/examples", "release", "rust", "rust/src", "rust/examples"):
+    for folder in ("", "docs", "man", "tests", "tests/c", "tests/rows", "tools", "bench", "c", "demo", "examples", "examples/c", "include", "port", "port/osdp_port", "port/osdp_port/page", "port/osdp_port/page/web", "python", "python/osdp", "python/examples", "release", "rust", "rust/src", "rust/examples"):
         for file in sorted((TOP / folder).iterdir()):
             if file.is_file() and file != Path(__file__).resolve():
                 yield file, file.read_text(errors="replace")

@@ -6,6 +6,7 @@ pseudo terminals. A line hands a burst on only between terminals of the same rat
 import fcntl
 import os
 import re
+import resource
 import select
 import signal
 import subprocess
@@ -15,6 +16,7 @@ import termios
 import time
 from pathlib import Path
 
+import stores
 from terminals import Script, Terminal, commands, packet
 
 TOP = Path(__file__).resolve().parent.parent
@@ -225,12 +227,12 @@ def kept_place(words):
     """A reader that keeps its place in a file is found again after it was cut off: at the address and the rate of a COMSET, whatever its words say."""
     with tempfile.TemporaryDirectory() as folder, Line(words) as line:
         kept = Path(folder) / "place"
-        panel, reader = line.panel("5"), line.reader(0, 5, options=["--keep", kept])
+        panel, reader = line.panel("5"), line.reader(0, 5, options=stores.options(kept))
         asks(line.run(opened(panel, 1)), "kept: the session doesn't open")
-        asks(not kept.exists(), "kept: a place was written before the reader has moved")
+        asks(stores.text(kept) == "5 at 5 9600\n", f"kept: at first the store has {stores.text(kept)!r}")
         panel.say("1 COMSET 7 19200")
         asks(line.run(opened(panel, 1, 2)), "kept: the session doesn't open at the new place")
-        asks(kept.read_text() == "7 19200\n" and list(kept.parent.iterdir()) == [kept], f"kept: the file has {kept.read_text()!r}, or isn't alone")
+        asks(stores.text(kept) == "5 at 7 19200\n", f"kept: the store has {stores.text(kept)!r}")
         reader.process.kill()
         reader.process.wait()
         asks(line.run(lambda: any(each.startswith("lost 1") for each in panel.lines)), "kept: the reader isn't lost")
@@ -241,24 +243,26 @@ def kept_place(words):
         line.loses = lambda way, burst: burst[5] == COM  # the COM is lost: the place was kept before it was sent
         panel.say("1 COMSET 8 9600")
         asks(line.run(lambda: any(burst[5] == COM and burst[1] == 0x87 for _, burst in line.bursts)), "kept: the second COMSET isn't answered")
-        asks(kept.read_text() == "8 9600\n", f"kept: as the COM goes out the file has {kept.read_text()!r}")
+        asks(stores.text(kept) == "5 at 8 9600\n", f"kept: as the COM goes out the store has {stores.text(kept)!r}")
 
 
 def no_place_kept(words):
-    """A reader whose place can't be kept says so and goes on. One whose file keeps something else doesn't start."""
+    """A reader whose place can't be kept says so and goes on. One whose file is no store doesn't start."""
     reader, program = words[1]
     with tempfile.TemporaryDirectory() as folder, Line(words) as line:
-        gone = line.reader(0, 5, options=["--keep", f"{folder}/gone/place"])
+        full = line.reader(0, 5, options=stores.options(f"{folder}/full"), preexec_fn=lambda: signal.signal(signal.SIGXFSZ, signal.SIG_IGN))
         end = line.reader_ends[0]
         for number, code, data, reply in ((0, ID, b"\0", PDID), (1, COMSET, com(7, 9600), COM)):
+            if number:
+                resource.prlimit(full.process.pid, resource.RLIMIT_FSIZE, (0, 0))
             os.write(end.end, packet(5, number, code, data))
             asks(end.next_burst()[5:6] == bytes([reply]), f"not kept: the reply to {code:02X} is another one")
-        asks(line.run(has(gone, "moved 7 9600")) and "not kept 7 9600" in gone.lines, f"not kept: the reader tells {gone.lines}")
-        paths = [f"{folder}/{at}" for at in range(4)]
-        for path, text in zip(paths, ("", "7\n", "7 x\n", "7 9600 1\n")):
-            Path(path).write_text(text)
-        rows = [([*reader, "--keep", path, end.path, 9600, *program], 3, rf"the kept place can't be read: {path}\n") for path in [*paths, folder]]
-        ends(rows)
+        asks(line.run(has(full, "moved 7 9600")) and any(each.startswith(f"not kept 7 9600: the store {folder}/full can't be written: ") for each in full.lines),
+             f"not kept: the reader tells {full.lines}")
+        rows = [(None, rf"there is no store at {folder}/0\. .*\n"), ("", rf"{folder}/1 has 0 bytes, and is no store\. .*\n"), ("7 9600\n", rf"{folder}/2 is no store of osdp\. .*\n")]
+        for at, (text, _) in enumerate(rows):
+            Path(f"{folder}/{at}").write_text(text) if text is not None else None
+        ends([([*reader, "--keep", f"{folder}/{at}", end.path, 9600, *program], 3, said) for at, (_, said) in enumerate(rows)])
 
 
 def com(address, rate):

@@ -77,7 +77,7 @@ def speaks(keys, shown, panel, heard):
         panel.stdin.write(f"{line}\n".encode())
         panel.stdin.flush()
 
-    heard.wants("opened 5 ")
+    heard.wants("online 5 ")
     order("5 open 1s")
     shown.wants("relay on\n")
     heard.wants("settled 5 OUT 0:5:10 = ACK")
@@ -88,7 +88,7 @@ def speaks(keys, shown, panel, heard):
     heard.wants("settled 5 OUT 0:2:0 = NAK 9")
     order("5 COMSET 9 9600")
     heard.wants("moved 5 COMSET 9 9600 = COM 9 9600")
-    heard.wants("opened 9 ")
+    heard.wants("online 9 ")
     keys.sendall(b"?")
     shown.wants("stack ")
     shown.wants("\n") if "\n" not in shown.text else None

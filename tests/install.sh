@@ -1,7 +1,7 @@
 #!/usr/bin/env bash
 # Installs what the gate has proved into a temporary folder, and looks at what is there: the program, its pages, the library for C, with which a program
 # is compiled by pkg-config and run, the examples, and the crate for Rust, whose example is run. Installs a second time, and into a folder where nothing
-# may be written. From a tree in which nothing is proved nothing is put in place, nor where a crate isn't proved. Takes the path of the program; the archive
+# may be written, and takes all away again (`placing.py`: all or nothing). From a tree in which nothing is proved nothing is put in place, nor where a crate isn't proved. Takes the path of the program; the archive
 # is that which `c.sh` has built.
 set -u
 cd "$(dirname "$0")/.." || exit 1
@@ -14,6 +14,9 @@ passes ./install --proved --prefix "$there"
 grep -qF "export PATH=$there/bin:" "$work/said" || fail 'it does not say that PATH lacks the folder'
 grep -qF "export PKG_CONFIG_PATH=$there/lib/pkgconfig" "$work/said" || fail 'it does not say that pkg-config does not find the library'
 
+passes python3 tests/placing.py
+[ -e "$there/share/bash-completion/completions/osdp-report" ] || fail 'bash finds no completion for osdp-report'
+
 [ "$("$there/bin/osdp" --version)" = 'osdp 0.1.0' ] || fail 'another version, or no program'
 cmp -s "$there/bin/osdp" "$1" || fail 'another program than the one that is proved'
 [ "$("$there/bin/osdp-port" --version)" = 'osdp-port 0.1.0' ] || fail 'osdp-port is another version, or no program'
@@ -24,7 +27,7 @@ printf '53050700006041\n' | "$there/bin/osdp-report" >"$work/said" 2>&1
 for page in osdp osdp-monitor osdp-panel osdp-plan osdp-port osdp-reader osdp-report; do
   MANPATH=$there/share/man man "$page" 2>/dev/null | grep -q SYNOPSIS || fail "man $page finds no page"
 done
-[ "$(find "$there" -name '*.new' -o -name __pycache__ -o -name target -o -name out | wc -l)" -eq 0 ] || fail 'work of a build was put in place'
+[ "$(find "$there" -name '*.new' -o -name '.osdp*' -o -name __pycache__ -o -name target -o -name out | wc -l)" -eq 0 ] || fail 'work of a build was put in place'
 
 export PKG_CONFIG_PATH=$there/lib/pkgconfig
 [ "$(pkg-config --modversion osdp)" = 0.1.0 ] || fail 'osdp.pc has another version'
@@ -38,7 +41,7 @@ for name in panel reader; do
 done
 # a copy of a small program in C, as c/README.md says, and of one in Rust, as rust/README.md says
 mkdir "$work/mine" && cp "$there/share/osdp/examples/c/"*.[ch] "$work/mine/" && cp "$work/mine/door_panel.c" "$work/mine/my_panel.c"
-(cd "$work/mine" && passes "$CC" -o my_panel my_panel.c {door,kept,owner,port,settings,trace,words}.c $(pkg-config --cflags --libs osdp)) || fail 'a copy of a panel in C is not built'
+(cd "$work/mine" && passes "$CC" -o my_panel my_panel.c {door,kept,owner,port,settings,store,trace,words}.c $(pkg-config --cflags --libs osdp) -lsqlite3) || fail 'a copy of a panel in C is not built'
 (
   ln -s "$there/share/osdp" "$work/osdp" && cd "$work" && unset OSDP_C_LIB_DIR && export CARGO_NET_OFFLINE=true
   passes cargo new --quiet --vcs none my_door && cd my_door || exit 1
@@ -66,7 +69,13 @@ touch "$work/file"
 ./install --proved --prefix "$work/file/below" >"$work/said" 2>&1
 { [ $? -eq 1 ] && [ "$(wc -l <"$work/said")" -eq 1 ]; } || { cat "$work/said"; fail 'a folder that cannot be made: not one line and status 1'; }
 
-mkdir -p "$work/tree/include" "$work/tree/rust" && cp install crates.txt "$work/tree/" && cp include/osdp.h "$work/tree/include/"
+# what was put in place goes again, all of it
+passes ./install --remove --prefix "$there"
+[ "$(find "$there" -mindepth 1 | wc -l)" -eq 0 ] || { find "$there" | head; fail 'something is left after --remove'; }
+./install --remove --prefix "$there" >"$work/said" 2>&1
+{ [ $? -eq 1 ] && [ "$(wc -l <"$work/said")" -eq 1 ]; } || { cat "$work/said"; fail 'what was removed is removed again'; }
+
+mkdir -p "$work/tree/include" "$work/tree/rust" "$work/tree/release" && cp release/placing.py "$work/tree/release/" && cp install crates.txt "$work/tree/" && cp include/osdp.h "$work/tree/include/"
 cp rust/Cargo.toml "$work/tree/rust/"
 "$work/tree/install" --proved --prefix "$work/nothing" >"$work/said" 2>&1
 { [ $? -eq 1 ] && [ ! -e "$work/nothing" ]; } || fail 'from a tree in which nothing is proved something was put in place'
@@ -94,6 +103,12 @@ grep -qF 'osdp_words: ./proofs/A.antt:8:13: error: open' "$work/said" || fail 'i
 sed -i 's/exit 1 ;;/exit 0 ;;/' "$work/stand_in/rt"
 PATH=$work/stand_in:$PATH "$work/tree/install" --jobs 2 --prefix "$work/nothing" >"$work/said" 2>&1
 { [ $? -eq 1 ] && grep -qF 'osdp_words: logic=not-proved' "$work/said" && [ ! -e "$work/nothing" ]; } || fail 'a crate that is not proved, and ends well, is taken as proved'
+
+# a folder that can't be written is told before anything is proved: `rt` would leave a mark. Root may write everywhere, so this runs as nobody.
+mkdir "$work/owned" && printf '#!/bin/sh\ntouch %s/proving\n' "$work" >"$work/stand_in/rt"
+chmod 755 "$work" "$work/tree" && (cd "$work" && PATH=$work/stand_in:$PATH setpriv --reuid=65534 --clear-groups "$work/tree/install" --prefix "$work/owned/below") >"$work/said" 2>&1
+{ [ $? -eq 1 ] && [ "$(wc -l <"$work/said")" -eq 1 ] && grep -qF "$work/owned can't be written" "$work/said" && [ ! -e "$work/proving" ]; } ||
+  { cat "$work/said"; fail 'a folder that cannot be written is not told before the proofs'; }
 
 # a cargo that is too old for the crate for Rust
 printf '#!/bin/sh\necho "cargo 1.85.0"\n' >"$work/stand_in/cargo" && chmod +x "$work/stand_in/cargo"

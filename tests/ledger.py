@@ -47,7 +47,7 @@ class Ledger:
         self.submitted += 1
 
     def withdraw(self, text):
-        self.ask(not self.is_open and self.ahead and self.ahead[0][1] == text, f"withdraw {text}")
+        self.ask(self.acted is None and self.ahead and self.ahead[0][1] == text, f"withdraw {text}")
         self.ahead.pop(0)
 
     def open(self):
@@ -141,11 +141,16 @@ class Machine:
         self.process.stdout.close()
 
 
+CODES = {"ACK": 0x40, "NAK": 0x41, "LSTATR": 0x48, "OSTATR": 0x4A}
+
+
 def reply_of(text):
-    """The code and data of an answer, by its text."""
+    """The code and data of an answer, by its text. Of one that no order of these has, as COM, its text: no device acted with that."""
     name, *fields = text.split(" ")
+    if name not in CODES:
+        return text.encode()
     data = bytes(map(int, fields)) if name != "OSTATR" else bytes.fromhex(fields[0])
-    return bytes([{"ACK": 0x40, "NAK": 0x41, "LSTATR": 0x48, "OSTATR": 0x4A}[name]]) + data
+    return bytes([CODES[name]]) + data
 
 
 class Line:

@@ -186,7 +186,7 @@ def is_plain():
     """Where the output is no terminal, lines are printed as without the option."""
     port = Terminal()
     script = started(port, ["--live"], subprocess.PIPE)
-    time.sleep(1)
+    time.sleep(3)  # a busy machine opens the port late
     for number in range(3):
         for burst in turn(number):
             os.write(port.end, burst)
@@ -202,7 +202,7 @@ def is_objects():
     """With --json each line is an object, and what is told has the moment of the day."""
     port = Terminal()
     script = started(port, ["--json", "--address", "7"], subprocess.PIPE)
-    time.sleep(1)
+    time.sleep(3)  # a busy machine opens the port late
     for number in range(3):
         for burst in turn(number):
             os.write(port.end, burst)

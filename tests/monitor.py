@@ -17,7 +17,7 @@ from pathlib import Path
 
 TOP = Path(__file__).resolve().parent.parent
 sys.path.insert(0, str(TOP / "examples"))
-from lines import Program  # noqa: E402
+from program import Program  # noqa: E402
 from terminals import Terminal, packet  # noqa: E402
 
 PROGRAM = str(Path(sys.argv[1]).resolve())

@@ -17,7 +17,7 @@ from pathlib import Path
 TOP = Path(__file__).resolve().parent.parent
 HEAP = {"rattle_alloc", "rattle_realloc", "rattle_dealloc"}
 # What stands beside the archive: c/osdp_texts.c
-BESIDE = {"osdp_version", "osdp_status_text"}
+BESIDE = {"osdp_version", "osdp_status_text", "osdp_struct_size"}
 OUTSIDE = HEAP | {"memcpy", "memmove", "memset"}
 TYPES = {
     "uint8_t": "u8", "uint16_t": "u16", "uint32_t": "u32", "uint64_t": "u64", "size_t": "usize", "osdp_size": "usize", "char": "c_char", "void": "c_void",
@@ -139,7 +139,7 @@ def rust():
     """What rust/src/sys.rs declares: the same."""
     text = re.sub(r"//.*", "", (TOP / "rust/src/sys.rs").read_text())
     functions = {}
-    for plain, name, takes in re.findall(r"^    (pub fn )?(osdp_\w+)\(([^)]*)\);", text, re.M):
+    for plain, name, takes in re.findall(r"^    (pub\(crate\) fn )?(osdp_\w+)\(([^)]*)\);", text, re.M):
         functions[name] = ([tuple(one.split(": ")) for one in parts(takes, ",")], "c_void" if plain else "osdp_status")
     constants = {name: int(value, 0) for name, value in re.findall(r"pub const (OSDP_\w+): u32 = (\w+);", text)}
     fields = {name: parts(body, ",") for name, body in re.findall(r"^    (\w+), \d+ \{(.*?)\}", text, re.S | re.M)}
@@ -185,10 +185,11 @@ def texts_in_rust():
 
 
 def judge_site():
-    """The constants of include/osdp_site.h: by the crate in Rattle, by the longest text (255 characters after six bytes), and by their comments, as `P5: ..`."""
+    """The constants of include/osdp_site.h: by the crate in Rattle, by the longest text (255 characters after six bytes), and by their comments, as `P5: ..`. The five seconds of LATE have
+    no other definition."""
     text, crate = ((TOP / name).read_text() for name in ("include/osdp_site.h", "crates/osdp_site/src/site.rt"))
     constants = {name: int(number) for name, number in re.findall(r"OSDP_SITE_(\w+) = (\d+)", text)}
-    wanted = {name.upper(): int(number) for name, number in re.findall(r"^            (pause|room): (\d+),$", crate, re.M)} | {"MOST_DATA": 6 + 255, "ANY_LENGTH": 0, "OK": 0}
+    wanted = {name.upper(): int(number) for name, number in re.findall(r"^            (pause|room): (\d+),$", crate, re.M)} | {"MOST_DATA": 6 + 255, "ANY_LENGTH": 0, "OK": 0, "LATE": 5000}
     wanted |= {name: int(number) for number, name in re.findall(r"/\* P(\d): [^*]*\*/\n    OSDP_SITE_(\w+) =", text)}
     compare("constant OSDP_SITE", constants, wanted, "crates/osdp_site and the comments")
 

@@ -14,6 +14,7 @@ import termios
 import time
 from pathlib import Path
 
+import stores
 from terminals import Script, Terminal, packet
 
 UNKNOWN, FIRST, SECOND = "11111140", "12345640", "65432180"
@@ -117,9 +118,9 @@ def keeps_place(program):
     with tempfile.TemporaryDirectory() as folder:
         kept = Path(folder) / "place"
         terminal = Terminal()
-        first = Script(program, "--keep", kept, terminal.path, 9600)
-        answers = [asked(terminal, 5, 0, 0x61, b"\0", seconds=20), kept.exists(), asked(terminal, 5, 1, 0x6E, bytes([7]) + (19200).to_bytes(4, "little")),
-                   kept.read_text() if kept.exists() else None]
+        first = Script(program, "--keep", kept, "--new", terminal.path, 9600)
+        answers = [asked(terminal, 5, 0, 0x61, b"\0", seconds=20), "19200" in stores.text(kept), asked(terminal, 5, 1, 0x6E, bytes([7]) + (19200).to_bytes(4, "little")),
+                   stores.text(kept).partition(" at ")[2]]
         first.process.kill()
         first.process.wait()
         terminal.close()
@@ -129,12 +130,14 @@ def keeps_place(program):
         terminal.note_rate()
         again.process.kill()
         again.process.wait()  # until then it has the port
+        for end in ("", "-wal", "-shm"):
+            Path(f"{kept}{end}").unlink(missing_ok=True)
         kept.write_text("7\n")
         ended = subprocess.run([program, "--keep", kept, terminal.path, "9600"], capture_output=True, text=True, timeout=30)
         terminal.close()
     if answers != [b"\x45", False, b"\x54", "7 19200\n", b"\x45", b""] or terminal.rate != termios.B19200:
         return f"it answers {answers}, at rate {terminal.rate}"
-    return None if ended.returncode and "the kept place can't be read" in ended.stderr else f"of a file that keeps something else it says {ended.stderr!r}"
+    return None if ended.returncode and f"{kept} is no store of osdp. Bring back a copy" in ended.stderr else f"of a file that keeps something else it says {ended.stderr!r}"
 
 
 def stays_in_place(program, address, event, *rest):
@@ -142,11 +145,11 @@ def stays_in_place(program, address, event, *rest):
     event that waits is told as withdrawn."""
     with tempfile.TemporaryDirectory() as folder:
         kept, terminal = Path(folder) / "place", Terminal()
-        device = Script(program, "--keep", kept, terminal.path, 9600, *rest)
+        device = Script(program, "--keep", kept, "--new", terminal.path, 9600, *rest)
         answers = [asked(terminal, address, 0, 0x61, b"\0", seconds=20)]
         device.say(event)
         time.sleep(0.5)  # until it has read that
-        answers += [asked(terminal, address, 1, 0x6E, bytes([7]) + (12345).to_bytes(4, "little")), kept.exists(), asked(terminal, address, 2, 0x60),
+        answers += [asked(terminal, address, 1, 0x6E, bytes([7]) + (12345).to_bytes(4, "little")), stores.text(kept) not in ("", f"{address} at {address} 9600\n"), asked(terminal, address, 2, 0x60),
                     asked(terminal, address, 0, 0x61, b"\0"), asked(terminal, 7, 0, 0x61, b"\0", seconds=1)]
         device.read()
         device.process.kill()

@@ -19,8 +19,9 @@ export OSDP_C_LIB_DIR=$PWD/crates/osdp_c/out
 examples/c/build "$work" -Werror || exit 1
 cargo build --quiet --offline --locked --examples --manifest-path rust/Cargo.toml --target-dir "$work/target" || exit 1
 for name in door_panel door_device; do
+  keep='[--keep FILE [--new]]'
   said=$("$work/target/debug/examples/$name" 2>&1)
-  [ $? -eq 2 ] && [ "$said" = "usage: $name [--keep FILE] PORT RATE" ] || { echo "pairs.sh: $name in Rust says of no words: $said"; failed=1; }
+  [ $? -eq 2 ] && [ "$said" = "usage: $name $keep [--late MS] PORT RATE" ] || { echo "pairs.sh: $name in Rust says of no words: $said"; failed=1; }
 done
 python3 -c "import runpy; from pathlib import Path; runpy.run_path('install')['compiled'](Path('$work'))" || exit 1
 export OSDP_LIBRARY=$work/libosdp.so.0

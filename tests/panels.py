@@ -18,12 +18,14 @@ from concurrent.futures import ProcessPoolExecutor
 from pathlib import Path
 
 import examples
+import stores
 from examples import ACK, COM, COMSET, ID, NAK, PDID, POLL, Device, Line, asks, has, opened, taken
-from terminals import Script, Terminal, packet
+from terminals import Script, Terminal, crc_packet, packet
 
 TOP = Path(__file__).resolve().parent.parent
 CRATES = sys.argv[3]
 OUT, RAW = 0x68, 0x50
+CARD = bytes([0, 0, 26, 0, 0x12, 0x34, 0x56, 0x40])  # one that opens doors
 FAST = "check sum poll-interval 20 reply-wait 300 sends 2 quiet-wait 60".split()
 SETTINGS = {"fast": FAST, "the defaults": ["check", "sum"], "reply-wait 400": ["check", "sum", "reply-wait", "400"]}
 FOUND = 60.0  # after how many seconds readers that answer have not been found
@@ -32,6 +34,39 @@ ROUNDS = 4  # in so many rounds each reader is tried at each of its places
 
 def all_words(c):
     return [([f"{c}/panel"], []), ([f"{c}/reader"], [])]
+
+
+def keeps(path):
+    """The words that name a program's store: one that isn't there is made."""
+    return stores.options(path)
+
+
+def whole(*lines):
+    """The lines of a store, or of the file of the panel in Rattle."""
+    return "".join(f"{line}\n" for line in lines)
+
+
+def turned(line):
+    """A line of a store with its places in the other order: the one in use stands last here, and has rank 0 there."""
+    name, _, rest = line.partition(" at ")
+    places, sign, identity = rest.partition(" is ")
+    return f"{name} at {' or '.join(places.split(' or ')[::-1])}{sign}{identity}"
+
+
+def kept_text(path):
+    """The lines of a store, or of the file of the panel in Rattle."""
+    head = Path(path).read_bytes()[:6] if Path(path).exists() else b""
+    return whole(*map(turned, stores.text(path).splitlines())) if head == b"SQLite" else Path(path).read_text()
+
+
+def keep_lines(path, *lines, is_rattle=False):
+    """Writes a store, or the file of the panel in Rattle, in the place of the one before."""
+    for end in ("", "-wal", "-shm"):
+        Path(f"{path}{end}").unlink(missing_ok=True)
+    if is_rattle:
+        Path(path).write_text(whole(*lines))
+    else:
+        stores.write(path, *map(turned, lines))
 
 
 def lost(panel, number):
@@ -149,7 +184,7 @@ def sentences(c, _):
     terminal.close()
     with Line(all_words(c), 2) as line:
         panel = line.panel("5,6", *FAST, "capacity", 1)
-        readers = [line.reader(0, 5), line.reader(1, 6)]
+        line.reader(0, 5), line.reader(1, 6)
         asks(line.run(lambda: opened(panel, 1)() and opened(panel, 2)()), "sentences: the sessions don't open")
         for order, why in (("3 OUT 0:2:0", "no device 3: the list has 1 at 5, 2 at 6"), ("1 COMSET 6 9600", "address 6 is that of device 2")):
             panel.say(order)
@@ -203,7 +238,8 @@ def lost_burst(c, _, count, at):
     """Of so many readers a COMSET of the rate loses one answer, the one at this place: all are found again."""
     with Line(all_words(c), count) as line:
         panel = line.panel(",".join(str(5 + each) for each in range(count)), *FAST)
-        readers = [line.reader(each, 5 + each) for each in range(count)]
+        for each in range(count):
+            line.reader(each, 5 + each)
         numbers = range(1, count + 1)
         asks(line.run(lambda: all(opened(panel, number)() for number in numbers)), f"one answer: the sessions of {count} don't open")
         answers = []
@@ -223,7 +259,7 @@ def one_is_dead(c, _):
     looked for. When it has power again it is found too, at the place that it has kept."""
     with tempfile.TemporaryDirectory() as folder, Line(all_words(c), 3) as line:
         panel = line.panel("5,6,7", *FAST)
-        readers = [line.reader(at, 5 + at, options=["--keep", f"{folder}/{at}"]) for at in range(3)]
+        readers = [line.reader(at, 5 + at, options=keeps(f"{folder}/{at}")) for at in range(3)]
         asks(line.run(lambda: all(opened(panel, number)() for number in (1, 2, 3))), "dead: the sessions don't open")
         line.loses = lambda way, burst: burst[5] == COM or burst[1] == 7 and burst[5] == COMSET
         panel.say("1 COMSET 5 19200")
@@ -284,17 +320,17 @@ def swapped(c, _):
     """One reader moves away, and another takes its address. The panel starts again with the same words: each order goes to its own reader."""
     with tempfile.TemporaryDirectory() as folder, Line(all_words(c), 2) as line:
         kept = f"{folder}/panel"
-        panel = line.panel("5,6", *FAST, options=["--keep", kept])
-        readers = [Script(f"{c}/reader", "--keep", f"{folder}/{at}", line.reader_ends[at].path, 9600, "address", 5 + at, "serial", 100 + at, "gap", 300) for at in range(2)]
+        panel = line.panel("5,6", *FAST, options=keeps(kept))
+        readers = [Script(f"{c}/reader", *keeps(f"{folder}/{at}"), line.reader_ends[at].path, 9600, "address", 5 + at, "serial", 100 + at, "gap", 300) for at in range(2)]
         line.scripts += readers
         asks(line.run(lambda: opened(panel, 1)() and opened(panel, 2)()), "swapped: the sessions don't open")
         line.rests(0.1)
-        asks(Path(kept).read_text() == "5 at 5 9600 is 000000 0 100\n6 at 6 9600 is 000000 0 101\n", f"swapped: at first the file has {Path(kept).read_text()!r}")
+        asks(kept_text(kept) == whole("5 at 5 9600 is 000000 0 100", "6 at 6 9600 is 000000 0 101"), f"swapped: at first the file has {kept_text(kept)!r}")
         panel.say("1 COMSET 7 9600")
         asks(line.run(opened(panel, 1, 2)), "swapped: the first reader doesn't move")
         panel.say("2 COMSET 5 9600")
         asks(line.run(opened(panel, 2, 2)), "swapped: the second reader doesn't move")
-        asks(Path(kept).read_text() == "5 at 7 9600 is 000000 0 100\n6 at 5 9600 is 000000 0 101\n", f"swapped: the file has {Path(kept).read_text()!r}")
+        asks(kept_text(kept) == whole("5 at 7 9600 is 000000 0 100", "6 at 5 9600 is 000000 0 101"), f"swapped: the file has {kept_text(kept)!r}")
         panel.process.kill()
         panel.process.wait()
         fcntl.ioctl(line.panel_end.other, termios.TIOCNXCL)
@@ -318,13 +354,13 @@ def kept_before(c, _):
     for loses, where in ((COM, "7 19200"), (COMSET, "5 9600")):
         with tempfile.TemporaryDirectory() as folder, Line(all_words(c)) as line:
             kept = Path(folder) / "panel"
-            panel = line.panel("5", *FAST, options=["--keep", kept])
+            panel = line.panel("5", *FAST, options=keeps(kept))
             line.reader(0, 5)
             asks(line.run(opened(panel, 1)), "kept: the session doesn't open")
             line.loses = lambda way, burst: burst[5] == loses
             panel.say("1 COMSET 7 19200")
             asks(line.run(lambda: any(burst[5] == loses for _, burst in line.bursts)), "kept: the COMSET doesn't go out")
-            asks(kept.read_text() == "5 at 7 19200 or 5 9600 is 53494D 1 0\n", f"kept: as the COMSET goes out the file has {kept.read_text()!r}")
+            asks(kept_text(kept) == whole("5 at 7 19200 or 5 9600 is 53494D 1 0"), f"kept: as the COMSET goes out the file has {kept_text(kept)!r}")
             panel.process.kill()
             panel.process.wait()
             fcntl.ioctl(line.panel_end.other, termios.TIOCNXCL)
@@ -332,30 +368,25 @@ def kept_before(c, _):
             again = line.panel("5", *FAST, options=["--keep", kept])
             asks(line.run(opened(again, 1)), f"kept: the reader isn't found again: {again.lines[-12:]}")
             line.rests(0.1)
-            asks(kept.read_text() == f"5 at {where} is 53494D 1 0\n", f"kept: in the end the file has {kept.read_text()!r}")
-    for text in ("5\n", "5 at 7\n", "5 at 7 9600 6\n", "5 at 7 9600 is 5\n", "5 at 127 9600\n", "5 at 7 9600\n6 at 7 9600\n", "5 at 7 9600 or 6 9600\n6 at 6 9600\n"):
-        with tempfile.TemporaryDirectory() as folder, Line(all_words(c)) as line:
-            Path(f"{folder}/kept").write_text(text)
-            done = subprocess.run([f"{c}/panel", "--keep", f"{folder}/kept", line.panel_end.path, "9600", "5"], capture_output=True, text=True, timeout=20, stdin=subprocess.DEVNULL)
-            asks((done.returncode, done.stderr) == (3, f"the kept places can't be read: {folder}/kept\n"), f"kept: {text!r} ends with {done.returncode}, {done.stderr!r}")
+            asks(kept_text(kept) == whole(f"5 at {where} is 53494D 1 0"), f"kept: in the end the file has {kept_text(kept)!r}")
 
 
 def another_device(c, _):
     """Another device at a reader's place gets no order until a line allows it; what it is, is kept then. None is sent to the address of one that is kept."""
     with tempfile.TemporaryDirectory() as folder, Line(all_words(c)) as line:
         kept = Path(folder) / "panel"
-        kept.write_text("5 at 5 9600 is 53494D 1 77\n9 at 9 9600\n")
+        keep_lines(kept, "5 at 5 9600 is 53494D 1 77", "9 at 9 9600")
         panel, reader = line.panel("5", *FAST, options=["--keep", kept]), line.reader(0, 5)
         asks(line.run(has(panel, "another device 1 at 5: it gets no order until `1 accept`")), "another: it isn't told")
         panel.say("1 OUT 0:2:1")
         asks(line.run(has(panel, "refused another device answers there", "not taken 1 OUT 0:2:1")), "another: its order isn't refused")
-        asks(kept.read_text().startswith("5 at 5 9600 is 53494D 1 77\n"), "another: it was kept before it was allowed")
+        asks(kept_text(kept).startswith("5 at 5 9600 is 53494D 1 77\n"), "another: it was kept before it was allowed")
         panel.say("1 accept\n1 OUT 0:2:2")
         asks(line.run(has(panel, "settled 1 OUT 0:2:2 = ACK")), "another: after the word it gets no order")
         panel.say("1 COMSET 9 9600")
         said = "refused a device that is kept, and isn't in the list, may have that address"
         asks(line.run(has(panel, said, "not taken 1 COMSET 9 9600")), f"another: it is sent where a device may be that is kept: {panel.lines[-12:]}")
-        asks(kept.read_text() == "5 at 5 9600 is 53494D 1 0\n9 at 9 9600\n", f"another: the file has {kept.read_text()!r}")
+        asks(kept_text(kept) == whole("5 at 5 9600 is 53494D 1 0", "9 at 9 9600"), f"another: the file has {kept_text(kept)!r}")
         asks(taken(reader) == ["taken OUT 0:2:2"], f"another: the reader has taken {taken(reader)}")
 
 
@@ -363,7 +394,7 @@ def other_elsewhere(c, _):
     """Another device that is found at another rate than the others' is told, allowed, and then brought to them."""
     with tempfile.TemporaryDirectory() as folder, Line(all_words(c), 2) as line:
         kept = Path(folder) / "panel"
-        kept.write_text("5 at 5 9600\n6 at 6 19200 is 53494D 1 77\n")
+        keep_lines(kept, "5 at 5 9600", "6 at 6 19200 is 53494D 1 77")
         panel = line.panel("5,6", *FAST, options=["--keep", kept])
         line.reader(0, 5)
         other = Script(f"{c}/reader", line.reader_ends[1].path, 19200, "address", 6, *examples.READER)
@@ -371,7 +402,7 @@ def other_elsewhere(c, _):
         asks(line.run(has(panel, "another device 2 at 6: it gets no order until `2 accept`")), f"elsewhere: it isn't told: {panel.lines[-12:]}")
         panel.say("2 OUT 0:2:1")
         asks(line.run(has(panel, "not taken 2 OUT 0:2:1")), "elsewhere: its order isn't refused")
-        asks("19200 is 53494D 1 77" in kept.read_text(), "elsewhere: it was kept before it was allowed")
+        asks("19200 is 53494D 1 77" in kept_text(kept), "elsewhere: it was kept before it was allowed")
         panel.say("2 accept")
         asks(line.run(has(panel, "moved 2 COMSET 6 9600 = COM 6 9600")), f"elsewhere: it isn't brought to the others: {panel.lines[-12:]}")
         asks("not taken 2 accept" not in panel.lines, "elsewhere: the word isn't taken")
@@ -379,7 +410,7 @@ def other_elsewhere(c, _):
         panel.say("2 OUT 0:2:2")
         asks(line.run(has(panel, "settled 2 OUT 0:2:2 = ACK")), "elsewhere: it gets no order")
         asks(taken(other) == ["taken COMSET 6 9600", "taken OUT 0:2:2"], f"elsewhere: it has taken {taken(other)}")
-        asks(kept.read_text().endswith("6 at 6 9600 is 53494D 1 0\n"), f"elsewhere: the file has {kept.read_text()!r}")
+        asks(kept_text(kept).endswith("6 at 6 9600 is 53494D 1 0\n"), f"elsewhere: the file has {kept_text(kept)!r}")
 
 
 class Odd(Device):
@@ -389,11 +420,12 @@ class Odd(Device):
         super().__init__(terminal, {})
         self.address, self.odd, self.orders, self.polls, self.card, self.is_silent = address, odd, [], 0, None, False
         self.holds, self.held = False, None  # whether a POLL is held back, and the one that is
+        self.deaf = None  # a code of commands that aren't answered
 
     def answer(self):
         for burst in self.terminal.bursts() if select.select([self.terminal.end], [], [], 0.01)[0] else ():
             self.orders += [burst[5]] if burst[5] in (OUT, COMSET) else []
-            if burst[1] != self.address or self.is_silent:
+            if burst[1] != self.address or self.is_silent or burst[5] == self.deaf:
                 continue
             if burst[5] == POLL and self.holds:
                 self.held = burst
@@ -407,7 +439,6 @@ class Odd(Device):
             self.reply(burst, code, data)
             self.address = burst[6] if burst[5] == COMSET and code != 0x99 else self.address
 
-
     def reply(self, burst, code, data):
         check = crc_packet if burst[4] & 4 else packet
         os.write(self.terminal.end, check(burst[1] | 0x80, burst[4] & 3, code, data))
@@ -416,17 +447,6 @@ class Odd(Device):
         """Whether it is polled some times from now on."""
         self.polls = 0
         return self.until(script, lambda: self.polls > 3)
-
-
-def crc_packet(address, number, code, data=b""):
-    """A packet with a CRC."""
-    whole = bytes([0x53, address, 8 + len(data), 0, number | 4, code]) + data
-    crc = 0x1D0F
-    for byte in whole:
-        crc ^= byte << 8
-        for _ in range(8):
-            crc = (crc << 1 ^ (0x1021 if crc & 0x8000 else 0)) & 0xFFFF
-    return whole + crc.to_bytes(2, "little")
 
 
 def started(c, line, name):
@@ -453,64 +473,176 @@ def odd_comset(c, _, name, odd):
         asks(device.address == 8 and device.orders == [COMSET, COMSET], f"unread, {name}: the reader is at {device.address}, and was ordered {device.orders}")
 
 
-def held_up(script, does=lambda: None):
-    """A program is stopped for longer than anybody waits for an answer; something is done meanwhile."""
+LATE = 2000  # a setting: how late a program may be, in milliseconds
+
+
+def held_up(script, does=lambda: None, seconds=2 * LATE / 1000):
+    """A program is stopped for longer than it may be late; something is done meanwhile."""
     script.process.send_signal(signal.SIGSTOP)
     time.sleep(0.2)
     does()
-    time.sleep(6.5)
+    time.sleep(seconds)
     script.process.send_signal(signal.SIGCONT)
 
 
-def stopped_panel(c, _, name):
+def stopped_panel(c, rust, language, name):
     """A panel that was stopped acts on no card that came before, and sends no order of before again: its session ends, and then a card opens the door."""
-    card = bytes([0, 0, 26, 0, 0x12, 0x34, 0x56, 0x40])
+    what = f"stopped, {name} in {language}"
     with Line(all_words(c)) as line:
-        panel = Script(f"{c}/{name}", line.panel_end.path, 9600)
+        panel = Script(f"{c if language == 'C' else rust}/{name}", "--late", LATE, line.panel_end.path, 9600)
         line.scripts.append(panel)
         device = Odd(line.panel_end, 1 if name == "three_doors" else 5)
-        told = {"three_doors": "door 1 is online", "door_panel": "opened 1"}[name]
-        openings = lambda: sum(each.startswith(told) for each in panel.lines)
-        asks(device.until(panel, lambda: openings() == 1) and device.is_polled(panel), f"stopped, {name}: the session doesn't open")
+        told = {"three_doors": "door 1 is online", "door_panel": "opened"}[name]
+        openings = lambda: sum(each.lower().startswith(told) for each in panel.lines)
+        asks(device.until(panel, lambda: openings() == 1) and device.is_polled(panel), f"{what}: the session doesn't open: {panel.lines}")
         device.orders.clear()
         device.holds = True
-        asks(device.until(panel, lambda: device.held is not None), f"stopped, {name}: there is no POLL")
-        held_up(panel, lambda: device.reply(device.held, RAW, card))
+        asks(device.until(panel, lambda: device.held is not None), f"{what}: there is no POLL")
+        held_up(panel, lambda: device.reply(device.held, RAW, CARD))
         device.holds = False
-        asks(device.until(panel, lambda: openings() == 2), f"stopped, {name}: its session doesn't end and open again: {panel.lines[-6:]}")
-        asks(device.is_polled(panel), f"stopped, {name}: it isn't polled")
-        asks(OUT not in device.orders, f"stopped, {name}: a card of before has opened the door")
-        device.card = card
-        asks(device.until(panel, lambda: OUT in device.orders), f"stopped, {name}: a card opens nothing any more")
+        asks(device.until(panel, lambda: openings() == 2), f"{what}: its session doesn't end and open again: {panel.lines[-6:]}")
+        asks(device.is_polled(panel), f"{what}: it isn't polled")
+        asks(OUT not in device.orders, f"{what}: a card of before has opened the door")
+        device.card = CARD
+        asks(device.until(panel, lambda: OUT in device.orders), f"{what}: a card opens nothing any more")
+
+
+def stopped_in_order(c, rust, language, name):
+    """An order for a card that was under way as a panel was stopped isn't sent again later, and neither is one that waited."""
+    what = f"stopped order, {name} in {language}"
+    with Line(all_words(c)) as line:
+        panel = Script(f"{c if language == 'C' else rust}/{name}", "--late", LATE, line.panel_end.path, 9600)
+        line.scripts.append(panel)
+        device = Odd(line.panel_end, 1 if name == "three_doors" else 5)
+        told = {"three_doors": "door 1 is online", "door_panel": "opened"}[name]
+        openings = lambda: sum(each.lower().startswith(told) for each in panel.lines)
+        asks(device.until(panel, lambda: openings() == 1) and device.is_polled(panel), f"{what}: the session doesn't open: {panel.lines}")
+        device.orders.clear()
+        device.deaf = OUT
+        device.card = CARD
+        asks(device.until(panel, lambda: OUT in device.orders), f"{what}: a card makes no order")
+        held_up(panel)
+        device.answer()  # copies that went out before it was stopped
+        device.orders.clear()
+        asks(device.until(panel, lambda: openings() == 2), f"{what}: its session doesn't end and open again: {panel.lines[-6:]}")
+        device.deaf = None
+        asks(device.is_polled(panel) and OUT not in device.orders, f"{what}: the order of before went out once more")
+        asks(any(each.lower().startswith("lost") and ("OUT" in each or "code: 104" in each) for each in panel.lines), f"{what}: it isn't told lost: {panel.lines[-6:]}")
+        asks(name != "three_doors" or any(each.startswith("withdrawn 1 LED ") for each in panel.lines), f"{what}: the one that waited isn't told: {panel.lines[-6:]}")
 
 
 def stopped_order(c, _):
-    """An order that was under way as the panel was stopped isn't sent again later."""
+    """An order that was under way as the panel was stopped isn't sent again later, and one that was given meanwhile isn't taken. That of the defaults: five seconds."""
     with Line(all_words(c)) as line:
         panel, device = line.panel("5", *FAST), Odd(line.panel_end)
         asks(device.until(panel, opened(panel, 1)), "stopped order: the session doesn't open")
         device.is_silent = True
         panel.say("1 OUT 0:5:30")
         asks(device.until(panel, lambda: OUT in device.orders), "stopped order: it doesn't go out")
-        held_up(panel, device.answer)
+        held_up(panel, lambda: device.answer() or panel.say("1 OUT 0:5:31"), 6.3)
         device.is_silent = False
         device.orders.clear()
         asks(device.until(panel, opened(panel, 1, 2)), f"stopped order: the session doesn't open again: {panel.lines[-6:]}")
         asks(device.orders == [] and "lost 1 no-reply OUT 0:5:30" in panel.lines, f"stopped order: ordered are {device.orders}, told is {panel.lines[-6:]}")
+        asks("not taken 1 OUT 0:5:31" in panel.lines, f"stopped order: one that was given meanwhile is taken: {panel.lines[-6:]}")
 
 
-def stopped_device(c, _, name):
+def late_order(c, _):
+    """No copy of an order goes out later after it was given than the panel may be late, though sends are left. Its session ends, and those that wait are taken back."""
+    with Line(all_words(c)) as line:
+        slow = "check sum poll-interval 20 reply-wait 300 sends 20 quiet-wait 60".split()
+        panel, device = line.panel("5", *slow, options=["--late", 1000]), Odd(line.panel_end)
+        asks(device.until(panel, opened(panel, 1)), "late order: the session doesn't open")
+        device.is_silent = True
+        panel.say("1 OUT 0:5:30\n1 OUT 0:5:31")
+        told = ["lost 1 no-reply OUT 0:5:30", "withdrawn 1 OUT 0:5:31"]
+        asks(device.until(panel, has(panel, *told)), f"late order: its end isn't told: {panel.lines[-6:]}")
+        asks(2 <= device.orders.count(OUT) <= 4, f"late order: it went out {device.orders.count(OUT)} times within a second, 300 ms from each to the next")
+
+
+SILENT = type("Silent", (), {"read": lambda self: None})()  # a program whose output nobody reads
+
+
+class Blocked:
+    """The pipe to which a program prints: it may be full."""
+
+    def __init__(self):
+        self.end, self.write = os.pipe()
+        os.set_blocking(self.end, False)
+        self.said = b""
+
+    def read(self):
+        try:
+            self.said += os.read(self.end, 65536).replace(b"x", b"")
+        except BlockingIOError:
+            pass
+
+    def fill(self):
+        full = os.open(f"/proc/self/fd/{self.write}", os.O_WRONLY | os.O_NONBLOCK)
+        try:
+            while True:
+                os.write(full, b"x")
+        except BlockingIOError:
+            os.close(full)
+
+    def has(self, text):
+        return lambda: self.read() or text in self.said
+
+    def close(self):
+        os.close(self.end)
+        os.close(self.write)
+
+
+def blocked_output(c, _):
+    """An order isn't written late where nobody has read what the panel prints, so that it stood still between the answer to the order before and that one."""
+    with Line(all_words(c)) as line:
+        pipe = Blocked()
+        slow = "check sum poll-interval 20 reply-wait 300 sends 20 quiet-wait 60".split()
+        panel, device = line.panel("5", *slow, options=["--late", 1000], stdout=pipe.write), Odd(line.panel_end)
+        asks(device.until(pipe, pipe.has(b"opened 1")), f"blocked: the session doesn't open: {pipe.said}")
+        device.deaf = OUT
+        panel.say("1 OUT 0:2:1\n1 OUT 0:5:30")
+        asks(device.until(pipe, lambda: device.orders and pipe.has(b"ordered 1 OUT 0:5:30\n")()), f"blocked: the orders aren't taken: {pipe.said}")
+        pipe.fill()
+        device.deaf = None
+        answered(device, SILENT, 1.6)  # the first order is answered, and nobody reads that it is settled
+        device.orders.clear()
+        pipe.said = b""
+        asks(device.until(pipe, pipe.has(b"lost 1 no-reply OUT 0:5:30\n")), f"blocked: the order isn't lost: {pipe.said}")
+        asks(OUT not in device.orders, "blocked: the order went out late")
+        pipe.close()
+
+
+def blocked_card(c, rust, language):
+    """A card opens no door late where nobody has read that it was shown, so that the panel stood still before its order. The next one does."""
+    with Line(all_words(c)) as line:
+        pipe, device = Blocked(), Odd(line.panel_end)
+        line.scripts.append(Script(f"{c if language == 'C' else rust}/door_panel", "--late", 1000, line.panel_end.path, 9600, stdout=pipe.write))
+        asks(device.until(pipe, pipe.has(b"pened")) and device.is_polled(pipe), f"blocked card, {language}: the session doesn't open: {pipe.said}")
+        pipe.fill()
+        device.card = CARD
+        answered(device, SILENT, 1.6)
+        pipe.said = b""
+        asks(device.until(pipe, pipe.has(b"pened")), f"blocked card, {language}: the session doesn't end and open again: {pipe.said}")
+        asks(b"ost" in pipe.said and OUT not in device.orders, f"blocked card, {language}: the door opens late: {pipe.said}")
+        device.card = CARD[:4] + bytes([0x65, 0x43, 0x21, 0x80])  # another one: the same may have been told before
+        asks(device.until(pipe, lambda: OUT in device.orders), f"blocked card, {language}: a card opens nothing any more: {pipe.said}")
+        pipe.close()
+
+
+def stopped_device(c, rust, language, name):
     """An order, and a card, that came while a device was stopped isn't done or told later; the next one is."""
-    program = {"reader": [f"{c}/reader", "{}", 9600, "address", 5], "door_device": [f"{c}/door_device", "{}", 9600], "keypad_reader": [f"{c}/keypad_reader", "{}", 9600, 5]}[name]
+    folder, what = c if language == "C" else rust, f"stopped, {name} in {language}"
+    rest = {"reader": ["address", 5], "door_device": [], "keypad_reader": [5] if language == "C" else []}[name]
     done = {"reader": "taken OUT 0:5:30", "door_device": "on 0", "keypad_reader": "relay on"}[name]
-    terminal = Terminal()
-    device = Script(*[terminal.path if word == "{}" else word for word in program])
+    terminal, at = Terminal(), 1 if (language, name) == ("Rust", "keypad_reader") else 5
+    device = Script(f"{folder}/{name}", "--late", LATE, terminal.path, 9600, *rest)
 
     def asked(*words):
         """The reply to a packet that is sent until it is answered, as a panel does."""
         end, found = time.monotonic() + 30, []
         while not found and time.monotonic() < end:
-            os.write(terminal.end, packet(*words))
+            os.write(terminal.end, packet(at, *words))
             found = list(terminal.bursts()) if select.select([terminal.end], [], [], 0.5)[0] else []
         time.sleep(0.2)  # repeats have their answers too
         if select.select([terminal.end], [], [], 0)[0]:
@@ -519,22 +651,60 @@ def stopped_device(c, _, name):
         return found[0][5] if found else None
 
     out = (OUT, bytes([0, 5, 30, 0]))
-    asks(asked(5, 0, ID, b"\0") == PDID, f"stopped, {name}: the opening isn't answered")
+    asks(asked(0, ID, b"\0") == PDID, f"{what}: the opening isn't answered")
     card = {"reader": "event RAW 0 0 26 12345640", "door_device": "card 12345640", "keypad_reader": "RAW 0 0 26 12345640"}[name]
-    held_up(device, lambda: os.write(terminal.end, packet(5, 1, *out)) and device.say(card))
-    asks(asked(5, 0, ID, b"\0") == PDID and done not in device.lines, f"stopped, {name}: an order of before was done: {device.lines}")
-    asks(asked(5, 1, *out) == ACK and device.lines.count(done) == 1, f"stopped, {name}: the next order is done otherwise: {device.lines}")
-    asks(asked(5, 2, POLL) == ACK and "too old RAW 0 0 26 12345640" in device.lines, f"stopped, {name}: a card of before is told: {device.lines}")
+    held_up(device, lambda: os.write(terminal.end, packet(at, 1, *out)) and device.say(card))
+    asks(asked(0, ID, b"\0") == PDID and done not in device.lines, f"{what}: an order of before was done: {device.lines}")
+    asks(asked(1, *out) == ACK and device.lines.count(done) == 1, f"{what}: the next order is done otherwise: {device.lines}")
+    asks(asked(2, POLL) == ACK and any(each.startswith("too old ") and "12345640" in each for each in device.lines), f"{what}: a card of before is told: {device.lines}")
     device.say(card)
     number, end = 2, time.monotonic() + 30
     while time.monotonic() < end:
         number = number % 3 + 1
-        if asked(5, number, POLL) == RAW:
+        if asked(number, POLL) == RAW:
             break
-    asks(time.monotonic() < end, f"stopped, {name}: a card isn't told any more")
+    asks(time.monotonic() < end, f"{what}: a card isn't told any more")
     device.process.kill()
     device.process.wait()
     terminal.close()
+
+
+def not_whole(c, rust):
+    """A panel's store that is gone, or was emptied or cut, is no new one, and `--new` makes none anew: the program says what to do."""
+    with tempfile.TemporaryDirectory() as folder:
+        keep_lines(f"{folder}/whole", "5 at 5 9600", "6 at 7 9600")
+        data = Path(f"{folder}/whole").read_bytes()
+    for program, rest, status in (([f"{c}/panel"], ["5"], 3), ([f"{c}/door_panel"], [], 3), ([f"{rust}/door_panel"], [], 1)):
+        for given, option, said in ((None, [], "there is no store at"), (b"", [], "has 0 bytes, and is no store"), (b"5 at 5 9600\n", [], "is no store of osdp"),
+                                    (data[:4096], [], "Bring back a copy of it"), (data[:-8192], [], "Bring back a copy of it"), (data, ["--new"], "there is a store already")):
+            with tempfile.TemporaryDirectory() as folder:
+                terminal, kept = Terminal(), Path(folder) / "kept"
+                kept.write_bytes(given) if given is not None else None
+                words = [*program, "--keep", kept, *option, terminal.path, "9600", *rest]
+                try:
+                    done = subprocess.run([str(word) for word in words], stdin=subprocess.DEVNULL, capture_output=True, text=True, timeout=5)
+                    asks(done.returncode == status and said in done.stderr and "--new" in done.stderr, f"not whole: {words} of {given and given[:16]!r} ends with {done.returncode}, {done.stderr!r}")
+                except subprocess.TimeoutExpired:
+                    asks(False, f"not whole: {words} takes {given and given[:16]!r}")
+                asks((kept.read_bytes() if kept.exists() else None) == given, f"not whole: {words} has changed the file")
+                terminal.close()
+
+
+def kept_apart(c, rust, language):
+    """A small panel sends its door to no address at which another device may be that its file keeps. What it writes is read by its owner alone, and follows no link."""
+    with tempfile.TemporaryDirectory() as folder, Line(all_words(c)) as line:
+        kept, link, elsewhere = Path(folder) / "kept", Path(folder) / "kept.new", Path(folder) / "elsewhere"
+        keep_lines(kept, "5 at 5 9600", "6 at 7 9600 or 8 9600")
+        link.symlink_to(elsewhere)
+        panel = Script(f"{c if language == 'C' else rust}/door_panel", "--keep", kept, line.panel_end.path, 9600)
+        line.scripts.append(panel)
+        device = Odd(line.panel_end, odd=COM)
+        asks(device.until(panel, lambda: any(each.lower().startswith("opened") for each in panel.lines)) and device.is_polled(panel), f"apart, {language}: the session doesn't open")
+        panel.say("move 7 9600\nmove 8 9600\nmove 9 9600")
+        asks(device.until(panel, lambda: device.orders), f"apart, {language}: no COMSET goes out: {panel.lines[-6:]}")
+        asks(has(panel, "refused line move 7 9600", "refused line move 8 9600")(), f"apart, {language}: it is sent to where another one may be: {panel.lines[-6:]}")
+        asks(device.until(panel, lambda: "5 at 9 9600" in kept_text(kept)), f"apart, {language}: the file has {kept_text(kept)!r}")
+        asks(not elsewhere.exists() and kept.stat().st_mode & 0o777 == 0o600, f"apart, {language}: a link was followed, or others may read the file")
 
 
 def relay_is_released(c, rust):
@@ -561,18 +731,18 @@ def small_panel(c, rust, language):
     """A small panel keeps where its door is: it is found there by a panel that starts again, and another device opens no door."""
     rattle = [sys.executable, "-B", TOP / "tests/carry.py", Path(CRATES) / "osdp_example_panel/out/osdp_example_panel"]
     program = {"C": [f"{c}/door_panel"], "Rust": [f"{rust}/door_panel"], "Rattle": rattle}[language]
-    card = "event RAW 0 0 26 12345640"
+    card, text = "event RAW 0 0 26 12345640", whole
     with tempfile.TemporaryDirectory() as folder, Line(all_words(c)) as line:
         kept = Path(folder) / "panel"
 
         def start():
             fcntl.ioctl(line.panel_end.other, termios.TIOCNXCL)
-            script = Script(*program, "--keep", kept, line.panel_end.path, 9600)
+            script = Script(*program, *(["--keep", kept] if language == "Rattle" else keeps(kept)), line.panel_end.path, 9600)
             line.scripts.append(script)
             return script
 
         def reader(serial):
-            words = [f"{c}/reader", "--keep", f"{folder}/reader", line.reader_ends[0].path, 9600, "address", 5, "serial", serial, "gap", 300]
+            words = [f"{c}/reader", *keeps(f"{folder}/reader"), line.reader_ends[0].path, 9600, "address", 5, "serial", serial, "gap", 300]
             line.scripts.append(Script(*words))
             return line.scripts[-1]
 
@@ -587,17 +757,17 @@ def small_panel(c, rust, language):
         panel, device = start(), reader(1)
         asks(line.run(is_open(panel, 1)), f"{language}: the session doesn't open")
         line.rests(0.2)
-        asks(kept.read_text() == "5 at 5 9600 is 000000 0 1\n", f"{language}: at first the file has {kept.read_text()!r}")
+        asks(kept_text(kept) == text("5 at 5 9600 is 000000 0 1"), f"{language}: at first the file has {kept_text(kept)!r}")
         line.loses = lambda way, burst: burst[5] == COM
         panel.say("move 7 19200")
         asks(line.run(lambda: any(burst[5] == COM for _, burst in line.bursts)), f"{language}: no COMSET goes out: {panel.lines[-12:]}")
-        asks(kept.read_text() == "5 at 7 19200 or 5 9600 is 000000 0 1\n", f"{language}: as the COMSET goes out the file has {kept.read_text()!r}")
+        asks(kept_text(kept) == text("5 at 7 19200 or 5 9600 is 000000 0 1"), f"{language}: as the COMSET goes out the file has {kept_text(kept)!r}")
         stop(panel)
         line.loses = lambda way, burst: False
         panel = start()
         asks(line.run(is_open(panel, 1)), f"{language}: the door isn't found again")
         line.rests(0.2)
-        asks(kept.read_text() == "5 at 7 19200 is 000000 0 1\n", f"{language}: in the end the file has {kept.read_text()!r}")
+        asks(kept_text(kept) == text("5 at 7 19200 is 000000 0 1"), f"{language}: in the end the file has {kept_text(kept)!r}")
         device.say(card)
         asks(line.run(has(device, "taken OUT 0:5:30")), f"{language}: the card opens nothing")
         stop(device)
@@ -611,11 +781,11 @@ def small_panel(c, rust, language):
         line.rests(0.3)
         device.say(card)
         asks(line.run(has(device, "taken OUT 0:5:30")), f"{language}: after the word the card opens nothing")
-        asks(kept.read_text() == "5 at 7 19200 is 000000 0 2\n", f"{language}: after the word the file has {kept.read_text()!r}")
+        asks(kept_text(kept) == text("5 at 7 19200 is 000000 0 2"), f"{language}: after the word the file has {kept_text(kept)!r}")
         stop(panel)
         if language == "Rattle":
             return  # there the program beside it looks at the other lines of its file
-        kept.write_text("6 at 5 9600\n")
+        keep_lines(kept, "6 at 5 9600")
         done = subprocess.run([*program, "--keep", kept, line.panel_end.path, "9600"], stdin=subprocess.DEVNULL, capture_output=True, text=True, timeout=20)
         asks(done.returncode in (1, 2) and "device 6, which is kept, may be" in done.stderr, f"{language}: at a place of another device it ends with {done.returncode}, {done.stderr!r}")
 
@@ -623,11 +793,11 @@ def small_panel(c, rust, language):
 def other_at_one_place(c, rust, name):
     """A door may be at two places, since its COMSET wasn't answered, and another device stands at one of them: the door is found at the other place. Where it is at
     neither, the other device is told once, and is taken for the door where a line says so."""
-    has_numbers = name == "panel in C"
+    has_numbers, text = name == "panel in C", whole
     card, order = "event RAW 0 0 26 12345640", "taken OUT 0:5:30"
 
     def runs(line, kept, *places):
-        kept.write_text("5 at 7 9600 or 5 9600 is 53494D 1 1\n")
+        keep_lines(kept, "5 at 7 9600 or 5 9600 is 53494D 1 1", is_rattle=name == "panel in Rattle")
         rattle = [sys.executable, "-B", TOP / "tests/carry.py", Path(CRATES) / "osdp_example_panel/out/osdp_example_panel"]
         programs = {"panel in C": [f"{c}/panel"], "door_panel in C": [f"{c}/door_panel"], "door_panel in Rust": [f"{rust}/door_panel"], "panel in Rattle": rattle}
         panel = Script(*programs[name], "--keep", kept, line.panel_end.path, 9600, *(["5", *FAST] if has_numbers else []))
@@ -640,12 +810,12 @@ def other_at_one_place(c, rust, name):
         asks(line.run(has(device, order)), f"one place, {name}: the door gets no order: {panel.lines[-12:]}")
 
     told = lambda panel: [each for each in panel.lines if each.startswith("another device")]
-    keeps = lambda kept, text: lambda: kept.read_text() == text
+    holds = lambda kept, line: lambda: kept_text(kept) == text(line)
     opened_often = lambda panel: lambda: sum(each.lower().removeprefix("report ").startswith("opened") for each in panel.lines) > 2
     with tempfile.TemporaryDirectory() as folder, Line(all_words(c), 2) as line:
         kept = Path(folder) / "panel"
         panel, (other, door) = runs(line, kept, (7, 2), (5, 1))
-        asks(line.run(keeps(kept, "5 at 5 9600 is 53494D 1 1\n")), f"one place, {name}: the door isn't found: {panel.lines[-12:]}, {kept.read_text()!r}")
+        asks(line.run(holds(kept, "5 at 5 9600 is 53494D 1 1")), f"one place, {name}: the door isn't found: {panel.lines[-12:]}, {kept_text(kept)!r}")
         asks(len(told(panel)) == 1 and " at 7" in told(panel)[0], f"one place, {name}: told is {told(panel)}")
         opens(line, panel, door)
         asks(taken(other) == [], f"one place, {name}: another device has taken {taken(other)}")
@@ -654,9 +824,9 @@ def other_at_one_place(c, rust, name):
         panel, (other,) = runs(line, kept, (7, 2))
         asks(line.run(opened_often(panel)), f"one place, {name}: the place is not tried again: {panel.lines[-12:]}")
         asks(len(told(panel)) == 1, f"one place, {name}: it is told {len(told(panel))} times")
-        asks(" or " in kept.read_text() and taken(other) == [], f"one place, {name}: it was taken for the door: {kept.read_text()!r}, {taken(other)}")
+        asks(" or " in kept_text(kept) and taken(other) == [], f"one place, {name}: it was taken for the door: {kept_text(kept)!r}, {taken(other)}")
         panel.say("1 accept" if has_numbers else "accept")
-        asks(line.run(keeps(kept, "5 at 7 9600 is 53494D 1 2\n")), f"one place, {name}: after the word the file has {kept.read_text()!r}")
+        asks(line.run(holds(kept, "5 at 7 9600 is 53494D 1 2")), f"one place, {name}: after the word the file has {kept_text(kept)!r}")
         line.rests(0.1)
         opens(line, panel, other)
 
@@ -707,6 +877,16 @@ def closed_output(c, _):
     terminal.close()
 
 
+def unread_output(_, rust):
+    """Where nobody reads what a program in Rust prints it ends without a word, and doesn't panic."""
+    terminal, (read, write) = Terminal(), os.pipe()
+    os.close(read)
+    done = subprocess.run([f"{rust}/keypad_reader", terminal.path, "9600"], stdin=subprocess.PIPE, stdout=write, stderr=subprocess.PIPE, timeout=20)
+    asks((done.returncode, done.stderr) == (1, b""), f"unread output: it ends with {done.returncode}, {done.stderr!r}")
+    os.close(write)
+    terminal.close()
+
+
 def run(case, c, rust, more):
     """The faults of one case."""
     examples.faults.clear()
@@ -719,16 +899,20 @@ def run(case, c, rust, more):
 
 
 def cases():
-    for name in ("stolen", "stolen_from_rust", "taken_port", "ends_of_orders", "many_stops", "sentences", "one_is_dead", "refused_rate", "swapped", "kept_before", "another_device", "closed_output",
-                 "other_elsewhere", "stopped_order", "relay_is_released"):
+    for name in ("stolen", "stolen_from_rust", "taken_port", "ends_of_orders", "many_stops", "sentences", "one_is_dead", "refused_rate", "swapped", "kept_before", "another_device", "closed_output", "unread_output",
+                 "other_elsewhere", "stopped_order", "late_order", "blocked_output", "not_whole", "relay_is_released"):
         yield name, ()
     for name in ("panel", "door_panel"):
         for odd in (0x99, ACK):
             yield "odd_comset", (name, odd)
-    for name in ("door_panel", "three_doors"):
-        yield "stopped_panel", (name,)
-    for name in ("reader", "door_device", "keypad_reader"):
-        yield "stopped_device", (name,)
+    for language in ("C", "Rust"):
+        yield "kept_apart", (language,)
+        yield "blocked_card", (language,)
+        for name in ("door_panel", "three_doors"):
+            yield "stopped_panel", (language, name)
+            yield "stopped_in_order", (language, name)
+        for name in ["reader"] * (language == "C") + ["door_device", "keypad_reader"]:
+            yield "stopped_device", (language, name)
     for language in ("C", "Rust", "Rattle"):
         yield "small_panel", (language,)
     for name in ("panel in C", "door_panel in C", "door_panel in Rust", "panel in Rattle"):

@@ -16,5 +16,8 @@ cargo build --quiet --offline --locked --examples --manifest-path rust/Cargo.tom
 "$work/little" /dev/null 9600 >"$work/said" 2>&1
 [ $? -eq 4 ] && [ "$(cat "$work/said")" = "out of memory" ] || fail "door_panel without memory for its door says: $(cat "$work/said")"
 
+# a panel whose library refuses the address at which a device is to be tried
+examples/c/build "$work/refused" "$PWD/tests/c/refuses.c" -Wl,--wrap=osdp_panel_retarget -Werror && passes python3 -B tests/c_refuses.py "$work/refused/panel" || failed=1
+
 timeout 900 python3 tests/panels.py "$work" "$work/target/debug/examples" "$crates" || failed=1
 exit "$failed"

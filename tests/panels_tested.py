@@ -2,15 +2,19 @@
 standard in another way than ours, which break none.
 
     panels_tested.py OSDP          plays the tricks against each of them, without a port, and holds the verdicts to what is said here
+    panels_tested.py --seeds=20 OSDP     the same over so many lines with losses, in place of one
     panels_tested.py OSDP NAME     prints the lines and the verdicts of one of them
     panels_tested.py --report OSDP NAME  prints its report, where nothing more is allowed"""
 import random
 import subprocess
 import sys
+import time
+from concurrent.futures import ProcessPoolExecutor
 from pathlib import Path
 
 sys.path.insert(0, str(Path(__file__).resolve().parent.parent / "port"))
-from osdp_port.panel_testing import Device, lines_of, reads  # noqa: E402
+from osdp_port.panel_ends import Ends  # noqa: E402
+from osdp_port.panel_testing import LAG, Device, Player, lines_of, reads  # noqa: E402
 from osdp_port.testing import crc, packet  # noqa: E402
 
 MOST = 4000  # packets after which a panel that is not done is left
@@ -23,6 +27,7 @@ class Panel:
 
     poll, reply_wait, busy_wait, quiet_wait, sends, check = 50, 200, 50, 400, 3, "crc"
     orders = 7  # each so many exchanges an order
+    takes = 4  # milliseconds that its packet and the answer take on the line
 
     def __init__(self, address=5):
         self.address, self.number, self.body, self.sent, self.count, self.is_open, self.busies = address, 0, b"\x61\x00", 0, 0, False, 0
@@ -136,39 +141,57 @@ def changed(made, bits, address=None):
     return head + (crc(head).to_bytes(2, "little") if is_crc else bytes(((-sum(head)) & 0xFF,)))
 
 
-def lines_for(panel, loses=0, may=None):
-    """The lines of a test of a panel, over a line that loses so many of a hundred packets and answers."""
-    lines, dice, now, more, late = [], random.Random(11), 0, 4, b""
-    device = Device(5, {"silence": 0} if may is None else may, lines.append)
-    for _ in range(MOST):
-        sent, said, delay = panel.asks(), b"", 4
-        if dice.randrange(100) >= loses:
-            read = reads(sent)
-            rule, pieces = device.hears(sent, now) if read else (0, [])
-            lines += lines_of(rule, now, sent, pieces)
-            said = b"".join(piece for _, piece in pieces)
-            delay += int(sum(wait for wait, _ in pieces) * 1000)
-            if dice.randrange(100) < loses:
-                said = b""
-        if said and delay > panel.reply_wait:  # it is on its way when the packet comes again
-            said, late = late, said
-        else:
-            said, late = late + said, b""
-        now += panel.hears(said, delay)
-        if device.is_over():
-            more -= 1
-            if not more:
-                break
-    return lines
+def packet_to(address, sent):
+    """The bytes of the packet to an address, or from it, among those that a panel sends. None where there is none."""
+    while sent:
+        read = reads(sent)
+        if read is None or read[1] == address:
+            return read[5] if read else None
+        sent = sent[sent.index(read[5]) + len(read[5]):]
+    return None
+
+
+class Test:
+    """What came of a test of a panel over a line that loses so many of a hundred packets and answers."""
+
+    def __init__(self, panel, loses=0, may=None, seed=11):
+        self.lines, self.notes, self.moment = [], [], 0
+        self.device = Device(5, {"silence": 0} if may is None else may, self.lines.append)
+        self.ends = Ends(self.device, self.notes.append)
+        self.goes(panel, loses, random.Random(seed))
+
+    def goes(self, panel, loses, dice):
+        late = b""
+        for _ in range(MOST):
+            sent, said, delay = panel.asks(), b"", panel.takes
+            self.device.beside.reads(sent)
+            whole = packet_to(5, sent)
+            if dice.randrange(100) >= loses and whole:
+                rule, pieces = self.device.hears(whole, self.moment)
+                self.lines += lines_of(rule, self.moment, whole, pieces)
+                self.ends.packet(self.moment)
+                said = b"".join(piece for _, piece in pieces)
+                delay += int(sum(wait for wait, _ in pieces) * 1000)
+                if dice.randrange(100) < loses:
+                    said = b""
+            if said and delay > panel.reply_wait:  # it is on its way when the packet comes again
+                said, late = late, said
+            else:
+                said, late = late + said, b""
+            self.moment += panel.hears(said, delay)
+            if self.ends.is_over(self.moment):
+                return
+        self.notes.append("no end")
 
 
 WRONG = {}
 TOLERANT = {}
 
 
-def wrong(*rules):
+def wrong(*rules, beside=(), cause=False):
+    """The rules that a panel breaks, what is found beside them, and whether it is told from what the rules follow."""
     def add(kind):
-        WRONG[kind.__name__] = (kind, set(rules))
+        WRONG[kind.__name__] = (kind, set(rules), set(beside), cause)
         return kind
     return add
 
@@ -181,6 +204,7 @@ def tolerant(kind):
 LOST = {16, 17, 18, 21, 22}  # nothing is said to a first copy with a number other than 0
 NOISE = {23, 24, 25, 26, 27}
 ASTRAY = {28, 29, 30, 31}
+ONCE = {"GoesOnAfterTheFirstLoss", "GivesUpARepeat"}  # a loss may come where its own fault would be shown, so another rule shows it, or none
 
 
 @wrong(1)
@@ -260,12 +284,12 @@ class RepeatsAnOrderWithANewNumber(Panel):
 
 @wrong(16)
 class GoesOnAfterTheFirstLoss(Panel):
-    """The first packet with number 1 that has no answer is followed by number 2."""
+    """The first packet with number 1 that has no answer, and is no order, is followed by number 2."""
 
     has_lost = False
 
     def number_after_loss(self):
-        if self.number == 1 and not self.has_lost:
+        if self.number == 1 and self.body != ORDER and not self.has_lost:
             self.has_lost = True
             return 2
         return self.number
@@ -411,6 +435,157 @@ class GoesOnAfterARefusal(Panel):
         return self.quiet_wait
 
 
+@wrong(4, 5, 36, 37, beside=["number 0"])
+class BeginsWithOne(Panel):
+    """Its sessions begin with number 1 in place of 0: at power-up, after NAK 4 and after a silence."""
+
+    def __init__(self, address=5):
+        super().__init__(address)
+        self.number = 1
+
+    def reopens(self):
+        super().reopens()
+        self.number = 1
+
+
+@wrong(4, 5, 36, beside=["number 0"])
+class BeginsWithOneAfterARefusal(Panel):
+    def refused(self):
+        self.reopens()
+        self.number = 1
+        return self.quiet_wait
+
+
+@wrong(36, beside=["number 0"])
+class TakesEachRefusalForAnAnswer(Panel):
+    """It takes NAK 4 for an answer at each time, so it never begins anew."""
+
+    def refused(self):
+        return self.answered()
+
+
+@wrong(36, beside=["number 0"])
+class TakesARefusalForAnAnswerWithoutOrders(TakesEachRefusalForAnAnswer):
+    orders = 0
+
+
+@wrong(36)
+class TakesARefusalOfAPollForAnAnswer(Panel):
+    """After the answer to another packet it begins anew."""
+
+    def refused(self):
+        return self.answered() if self.body == b"\x60" else super().refused()
+
+
+@wrong(beside=["number 0", "next number"])
+class PollsWithOneForEver(Panel):
+    """It sends one packet, POLL with number 1, for ever."""
+
+    def __init__(self, address=5):
+        super().__init__(address)
+        self.number, self.body = 1, b"\x60"
+
+    def next_number(self):
+        return 1
+
+    def answered(self):
+        wait = super().answered()
+        self.body = b"\x60"
+        return wait
+
+    def reopens(self):
+        super().reopens()
+        self.number, self.body = 1, b"\x60"
+
+
+@wrong(beside=["next number"])
+class PollsWithZeroForEver(Panel):
+    """It counts no numbers: each packet is POLL with number 0."""
+
+    def __init__(self, address=5):
+        super().__init__(address)
+        self.body = b"\x60"
+
+    def next_number(self):
+        return 0
+
+    def answered(self):
+        wait = super().answered()
+        self.body = b"\x60"
+        return wait
+
+
+@wrong(beside=["next number"])
+class HearsNothing(Panel):
+    def finds(self, heard):
+        return None
+
+
+@wrong(6, 37, cause=True)
+class WaitsThirtyMilliseconds(Panel):
+    """It sends each packet three times within 90 ms, and goes on then."""
+
+    reply_wait = 30
+
+    def gives_up(self):
+        return self.answered()
+
+
+@wrong(16, 17, 18, *range(21, 32), 37, cause=True)
+class GoesOnAfterThirtyMilliseconds(Panel):
+    """It sends no copy, so what breaks fifteen rules is told by the wait before the next number."""
+
+    reply_wait = 30
+
+    def number_after_loss(self):
+        return self.next_number() if self.number else 0
+
+
+@wrong(6, *range(16, 19), *range(21, 33), 34, 36, 37, cause=True)
+class TakesLateAnswersForOthers(Panel):
+    """It waits 30 ms, where an answer takes 35, and takes an answer with any number."""
+
+    reply_wait, takes = 30, 35
+
+    def reply_to(self, read):
+        is_reply, address, _, _, body, _ = read
+        return is_reply and address == self.address and body[:1] != b""
+
+
+class PollsAnother(Panel):
+    """It polls device 6 too, which isn't there."""
+
+    def other(self):
+        return packet(6, 0, b"\x60", self.check)
+
+    def asks(self):
+        return self.other() + super().asks()
+
+
+@wrong(beside=["check"])
+class EndsAnothersPacketWrong(PollsAnother):
+    """The CRC of its packets to device 6 is always the same."""
+
+    def other(self):
+        return super().other()[:-2] + b"\x12\x34"
+
+
+@wrong(beside=["check"])
+class SwapsAnothersCheck(PollsAnother):
+    def other(self):
+        made = super().other()
+        return made[:-2] + made[:-3:-1]
+
+
+@wrong(beside=["check"])
+class EndsAnothersSumWrong(PollsAnother):
+    check = "sum"
+
+    def other(self):
+        made = super().other()
+        return made[:-1] + bytes((made[-1] ^ 1,))
+
+
 @wrong(*NOISE, *ASTRAY, *LOST, 32, 34, 37)
 class NeverRepeats(Panel):
     """It sends each number once, whatever comes: no copy shows the rules of a second silence and of a second BUSY."""
@@ -502,6 +677,40 @@ class GivesNoOrders(Panel):
 
 
 @tolerant
+class SendsMakersOrders(Panel):
+    """Its orders are MFG of a maker."""
+
+    def answered(self):
+        wait = super().answered()
+        self.body = b"\x80\x00\x06\x8E\x01" if self.body == ORDER else self.body
+        return wait
+
+
+@tolerant
+class PollsAnotherOverDamage(PollsAnother):
+    """A third of its packets to device 6 are damaged on the line, each in another way."""
+
+    dice = random.Random(5)
+
+    def other(self):
+        made = super().other()
+        at = self.dice.randrange(3 * len(made))
+        return made if at >= len(made) else made[:at] + bytes((self.dice.randrange(256),)) + made[at + 1:]
+
+
+@tolerant
+class GivesAnOrderLate(Panel):
+    """Its first order comes 15 seconds after all else was played."""
+
+    orders = 0
+
+    def answered(self):
+        wait = super().answered()
+        self.body = ORDER if self.count == 430 else b"\x60"
+        return wait
+
+
+@tolerant
 class AsksItsStatus(Panel):
     def answered(self):
         wait = super().answered()
@@ -521,41 +730,100 @@ def verdicts(osdp, lines):
     return found, done
 
 
-def holds(osdp):
+def tested(osdp, name, loses, seed):
+    """The verdicts on a panel over a line, what was found beside them, what the test said, all of it in words, and the status."""
+    kind = WRONG[name][0] if name in WRONG else TOLERANT[name]
+    test = Test(kind(), loses, seed=seed)
+    found, done = verdicts(osdp, test.lines)
+    text = f"broken {sorted(found.get('broken', ()))}, beside {sorted(test.device.beside.found)}, notes {test.notes}, status {done.returncode} {done.stderr.strip()}"
+    return found, test.device.beside, test.notes, f"{name}, {loses} losses of 100, seed {seed}: {text}", done.returncode
+
+
+def is_found(osdp, name, loses, seed):
+    """What is otherwise of a wrong panel, or an empty text. Without losses it has exactly its verdicts, and else one of them at least."""
+    _, rules, beside, cause = WRONG[name]
+    found, more, notes, text, status = tested(osdp, name, loses, seed)
+    broken = found.get("broken", set())
+    holds_so = set(more.found) == beside and "no end" not in notes and status == (1 if broken else 0)
+    if not loses:
+        holds_so = holds_so and broken == rules and bool(more.cause(broken)) == cause
+    elif rules and name not in ONCE:
+        holds_so = holds_so and broken & rules and (not cause or more.cause(broken))
+    return "" if holds_so else text
+
+
+def is_sound(osdp, name, loses, seed):
+    """What a panel that keeps the rules is accused of, or an empty text."""
+    found, more, notes, text, status = tested(osdp, name, loses, seed)
+    return "" if not (found.get("broken") or more.found or status or "no end" in notes) else text
+
+
+def holds(osdp, seeds):
     """Whether each panel has the verdicts that are said of it."""
-    bad = 0
-    for name, (kind, rules) in WRONG.items():
-        found, done = verdicts(osdp, lines_for(kind()))
-        broken = found.get("broken", set())
-        if broken != rules or done.returncode != 1:
-            print(f"{name}: broken {sorted(broken)}, expected {sorted(rules)}, status {done.returncode} {done.stderr.strip()}")
-            bad += 1
-    for name, kind in TOLERANT.items():
-        for loses in (0, 10, 30):
-            found, done = verdicts(osdp, lines_for(kind(), loses))
-            if found.get("broken") or done.returncode:
-                print(f"{name}: broken {sorted(found.get('broken', ()))} at {loses} losses of 100, status {done.returncode} {done.stderr.strip()}")
-                bad += 1
-    found, _ = verdicts(osdp, lines_for(Panel()))
+    many = range(11, 11 + seeds)
+    cases = [(is_found, name, 0, 11) for name in WRONG] + [(is_found, name, 3, seed) for name in WRONG for seed in many]
+    cases += [(is_sound, name, 0, 11) for name in TOLERANT] + [(is_sound, name, loses, seed) for name in TOLERANT for loses in (3, 10, 30) for seed in many]
+    with ProcessPoolExecutor(max_workers=4) as pool:
+        bad = [each for each in pool.map(judged, [(osdp, *case) for case in cases], chunksize=4) if each]
+    bad += [each for each in [reads_late()] if each]
+    print(*bad, sep="\n", end="\n" if bad else "")
+    found, *_ = tested(osdp, "Right", 0, 11)
     missing = set(range(1, RULES + 1)) - found.get("ok", set())
-    if missing:
-        print(f"Right: not ok {sorted(missing)}")
-        bad += 1
-    print(f"panels: {len(WRONG)} wrong, {len(TOLERANT)} right in other ways, {bad} with another verdict")
-    return bad
+    late, *_ = tested(osdp, "GivesAnOrderLate", 0, 11)
+    if missing or 22 not in late.get("ok", ()):
+        bad.append(f"Right: not ok {sorted(missing)}; an order that comes late: {late}")
+        print(bad[-1])
+    print(f"panels: {len(WRONG)} wrong, {len(TOLERANT)} right in other ways, {len(bad)} with another verdict")
+    return len(bad)
+
+
+class Slow:
+    """A port that gives a packet each time that it is read, and a console. Where it is told so, the computer stands still before it reads."""
+
+    is_there, stops = True, 0
+
+    def __init__(self, packets):
+        self.packets, self.said = packets, []
+
+    def read(self):
+        return self.packets.pop(0)
+
+    def write(self, data):
+        self.said.append(data)
+
+    def note(self, line):
+        self.said.append(line)
+
+
+def reads_late():
+    """What is otherwise where a computer reads late: the packet has no answer and no line, and its copy has both."""
+    poll, lines = packet(5, 0, b"\x60", "crc"), []
+    port = Slow([poll, poll])
+    player = Player(port, port, Device(5, {}, lambda line: None), lines.append, lambda: None)
+    time.sleep(2 * LAG)
+    player.turn()
+    first = (player.late, list(port.said), list(lines))
+    player.turn()
+    return "" if first == (1, [], []) and (player.late, len(port.said), len(lines)) == (1, 1, 1) else f"read late: {first}, {player.late}, {port.said}, {lines}"
+
+
+def judged(case):
+    osdp, asks, *words = case
+    return asks(osdp, *words)
 
 
 def main(words):
     if words[:1] == ["--report"]:
-        print(verdicts([words[1]], lines_for(WRONG[words[2]][0](), may={}))[1].stdout, end="")
+        print(verdicts([words[1]], Test(WRONG[words[2]][0](), may={}).lines)[1].stdout, end="")
         return 0
+    seeds = int(words.pop(0).removeprefix("--seeds=")) if words[0].startswith("--seeds=") else 1
     osdp = words[0].split()
     if len(words) > 1:
-        lines = lines_for((WRONG.get(words[1], (None,))[0] or TOLERANT[words[1]])())
-        print("\n".join(lines))
-        print(verdicts(osdp, lines)[1].stdout)
+        test = Test((WRONG.get(words[1], (None,))[0] or TOLERANT[words[1]])())
+        print("\n".join([*test.lines, *test.notes, *test.device.beside.lines()]))
+        print(verdicts(osdp, test.lines)[1].stdout)
         return 0
-    return 1 if holds(osdp) else 0
+    return 1 if holds(osdp, seeds) else 0
 
 
 if __name__ == "__main__":

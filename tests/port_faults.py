@@ -3,6 +3,7 @@ is full, signals. Its files are in port_files.py. Takes the path of `osdp`, and 
 import contextlib
 import fcntl
 import os
+import random
 import select
 import signal
 import socket
@@ -16,6 +17,7 @@ import time
 from pathlib import Path
 
 import port_line
+import stores
 from port_line import ACK, COMSET, ID, IDENTITY, OUT, PANEL, PDID, POLL, PORT, Device, Line, asks, faults, has, opened, tells
 from simulated import Line as SimulatedLine
 from simulated import Port as SimulatedPort
@@ -77,9 +79,13 @@ def reader_stays():
         with tempfile.TemporaryDirectory() as folder:
             said, sent, at, kept, port = [], [], [], Path(folder) / "place", SimulatedPort(SimulatedLine(port_line.osdp), 9600)
             port.can_have, port.write = lambda rate, takes=takes: takes, sent.append
-            Reader(port, lambda address: at.append(address) or Told(), 5, lambda: 0, said.append, ReaderPlace(str(kept))).turn(b"", [])
-            found = (port.rate, kept.read_text() if kept.exists() else None, len(sent), at)
-            asks(found == ((19200, "7 19200\n", 1, [5]) if takes else (9600, None, 0, [5, 5])), f"reader stays: {found}")
+            place = ReaderPlace(str(kept), is_new=True)
+            place.read()
+            place.begins(5, 9600)
+            Reader(port, lambda address: at.append(address) or Told(), 5, lambda: 0, said.append, place).turn(b"", [])
+            found = (port.rate, stores.text(kept), len(sent), at)
+            asks(found == ((19200, "5 at 7 19200\n", 1, [5]) if takes else (9600, "5 at 5 9600\n", 0, [5, 5])), f"reader stays: {found}")
+            place.close()
             asks(("refused COMSET 7 19200: the port has no rate 19200; the reader stays at 5 9600, and its session ends" in said) != takes, f"reader stays: {said}")
 
 
@@ -110,7 +116,7 @@ def panel_stays():
     """A panel whose port doesn't take a rate at which its device may be: the device is tried at the rate of the port, and found there."""
     with tempfile.TemporaryDirectory() as folder:
         keep, line, turns = Path(folder) / "places", SimulatedLine(port_line.osdp), 0
-        keep.write_text("5 at 5 9600 or 5 19200\n")
+        stores.write(keep, "5 at 5 9600 or 5 19200")
         line.add_panel([5], rate=19200, keep=keep)
         line.panel.port.set_rate = lambda rate: rate == 9600 and SimulatedPort.set_rate(line.panel.port, rate)
         asks(line.panel.port.rate == 9600, f"panel stays: the first rate is {line.panel.port.rate}")
@@ -135,7 +141,7 @@ def others_come_back():
         asks(line.run(line.all_open, 20), "come back: the sessions don't open")
         line.order("5 rate 19200")
         asks(line.run(lambda: readers[moves].port.rate == 19200, 60), f"come back, {stays}: the other doesn't move: {line.told[-6:]}")
-        together = lambda: line.all_open() and readers[moves].port.rate == 9600 and not any(device.orders or device.move for device in line.panel.devices)
+        together = lambda: line.all_open() and readers[moves].port.rate == 9600 and not any(device.orders for device in line.panel.devices)
         asks(line.run(together, 300), f"come back, {stays}: not together: {line.told[-12:]}")
         asks(f"back to 9600: device {stays} stays there" in line.told, f"come back, {stays}: it isn't told: {line.told[-12:]}")
         for address in (5, 6):
@@ -269,6 +275,31 @@ def service_ends():
         asks(status == 0 and tells(monitor, "device  asked")(), f"service ends: the monitor: {status}, {monitor.lines}")
 
 
+def hangs_up():
+    """The terminal is closed, which SIGHUP tells, and a shell tells it once more: the panel tells the ends of its orders all the same, and the monitor its table. Under `nohup` both go on."""
+    with Line(readers=2) as line:
+        line.reader(0, 5)
+        panel = line.panel("5", *PANEL)
+        asks(line.run(opened(panel, 5)), f"hangs up: the session doesn't open: {panel.lines}")
+        line.loses = lambda way, burst: burst[5] == OUT
+        panel.say("5 OUT 0:2:1\n5 OUT 0:2:2")
+        line.run(lambda: any(burst[5] == OUT for _, burst in line.bursts))
+        panel.process.send_signal(signal.SIGHUP)
+        line.rests(0.1)
+        status = line.stops(panel, signal.SIGHUP)
+        asks(status == 1 and has(panel, "lost 5 no-reply OUT 0:2:1", "withdrawn 5 OUT 0:2:2")(), f"hangs up: {status}, {panel.lines[-3:]}")
+        for ignores in (False, True):
+            monitor = line.start(line.reader_ends[1], 9600, "monitor", preexec_fn=lambda: signal.signal(signal.SIGHUP, signal.SIG_IGN) if ignores else None)
+            line.run(lambda: monitor.lines)
+            os.write(line.reader_ends[1].end, packet(5, 0, ID, b"\0") + packet(0x85, 0, PDID, IDENTITY) + packet(5, 1, POLL) + packet(0x85, 1, ACK))
+            line.rests(0.6)
+            monitor.process.send_signal(signal.SIGHUP)
+            line.rests(0.5)
+            asks((monitor.process.poll() is None) == ignores, f"hangs up: the monitor, {ignores}: {monitor.process.poll()}")
+            status = line.stops(monitor) if ignores else line.stops(monitor, 0)
+            asks(status == 0 and tells(monitor, "device  asked")(), f"hangs up: the monitor: {status}, {monitor.lines}")
+
+
 def terminates_children(script):
     for child in Path(f"/proc/{script.process.pid}/task/{script.process.pid}/children").read_text().split():
         os.kill(int(child), signal.SIGTERM)
@@ -346,13 +377,13 @@ def kept_at_a_server():
     with tempfile.TemporaryDirectory() as folder:
         for is_silent in (False, True):
             keep, server = Path(folder) / f"places{is_silent}", Server(is_silent)
-            keep.write_text("5 at 5 9600 or 5 19200\n")
+            stores.write(keep, "5 at 5 9600 or 5 19200")
             panel = Script(PORT, "--plain", "--osdp", port_line.osdp, "--keep", keep, server.path, 9600, "panel", "5", *PANEL, "reply-wait", 100)
             if is_silent:
                 asks(until(lambda: len(server.asked) > 6, 60), f"kept at a server: the device is tried {len(server.asked)} times")
             else:
                 asks(until(lambda: panel.read() or opened(panel, 5)()), f"kept at a server: {panel.lines}")
-                asks(until(lambda: "5 at 5 9600 is" in keep.read_text()), f"kept at a server: the file has {keep.read_text()!r}")
+                asks(until(lambda: "5 at 5 9600 is" in stores.text(keep)), f"kept at a server: the file has {stores.text(keep)!r}")
             panel.process.kill()
             panel.process.wait()
 
@@ -368,6 +399,22 @@ def whole_bursts():
         reads = [len(port.read()) for _ in range(4)]
         asks(reads == [PIECE, PIECE, PIECE, 0], f"bursts: {3 * PIECE} bytes are read as {reads}")
         port.close()
+
+
+def noise_in_a_search():
+    """A line on which bytes come all the time: `find` says so once, says nothing of several devices, and ends soon."""
+    with socket.create_server(("127.0.0.1", 0)) as server:
+        find = Script(PORT, "--plain", "--osdp", port_line.osdp, f"socket://127.0.0.1:{server.getsockname()[1]}", 9600, "find")
+        client = server.accept()[0]
+        chance, begun = random.Random(1), time.monotonic()
+        while find.process.poll() is None and time.monotonic() < begun + 60:
+            with contextlib.suppress(OSError):
+                client.sendall(chance.randbytes(3))
+            time.sleep(0.01)
+        find.read()
+        counts = [sum(told.startswith(start) for told in find.lines) for start in ("bytes come though nobody is asked", "several", "no device found: bytes come")]
+        asks(find.process.poll() == 1 and counts == [1, 0, 1] and time.monotonic() < begun + 30, f"noise: {find.process.poll()} after {time.monotonic() - begun:.0f} s, {find.lines}")
+        client.close()
 
 
 def gone_in_a_search():
@@ -422,7 +469,7 @@ def away():
         terminal.close()
 
 
-PARTS = (refused_rate, reader_stays, found_where_it_stays, others_come_back, panel_stays, devices_stay, find_stays, sleeps, full_output, unread_output, service_ends, many_stops, unwritten_help, cursor, kept_at_a_server, whole_bursts, gone_in_a_search, deaf_server, away)
+PARTS = (refused_rate, reader_stays, found_where_it_stays, others_come_back, panel_stays, devices_stay, find_stays, sleeps, full_output, unread_output, service_ends, hangs_up, many_stops, unwritten_help, cursor, kept_at_a_server, whole_bursts, noise_in_a_search, gone_in_a_search, deaf_server, away)
 
 
 def main(path, *names):

@@ -133,7 +133,8 @@ def tells(script, text, times=1):
 
 
 def opened(script, address, times=1):
-    return lambda: sum(line.startswith(f"opened {address} ") for line in script.lines) >= times
+    """Whether a session has opened so often, as `osdp-port` tells it, or an example."""
+    return lambda: sum(line.startswith((f"online {address} ", f"opened {address} ")) for line in script.lines) >= times
 
 
 def taken(script):

@@ -8,7 +8,7 @@ from types import SimpleNamespace
 
 sys.dont_write_bytecode = True
 sys.path.insert(0, str(Path(__file__).resolve().parent.parent / "port"))
-from osdp_port import main, panel, reader, rounds, trace  # noqa: E402
+from osdp_port import devices, line_rate, main, panel, reader, rounds, trace  # noqa: E402
 from osdp_port.faults import Stop  # noqa: E402
 from osdp_port.rounds import Entry, Place, Rounds  # noqa: E402
 
@@ -81,7 +81,7 @@ class Panel:
     def __init__(self, *names, opened=True):
         self.did, self.told, self.now = [], [], 0
         self.program, self.port = Program(self.did, "due none"), Port(self.did)
-        self.panel = panel.Panel(self.port, self.program, panel.new_devices(list(names), 9600, None), lambda: self.now, self.told.append, Kept(self.did))
+        self.panel = panel.Panel(self.port, self.program, devices.new_devices(list(names), 9600, None), lambda: self.now, self.told.append, Kept(self.did))
         for at in range(1, len(names) + 1) if opened else ():
             self.panel.devices[at - 1].session = "begun"
             self.panel.heed(f"opened {at} {SIM}")
@@ -131,6 +131,43 @@ def looks_at_orders():
     line = Panel(5, 6)
     line.port.is_there = False
     asks(line.order("6 on"), ["not taken 6 on: the port isn't there"], "an order without a port")
+
+
+def looks_at_refusals():
+    """What a device refuses is told in words, and counts as something that was met."""
+    for reply, wanted in (("NAK 9", " (the device can't do what its data say)"), ("NAK 3", " (the device doesn't know the command)"), ("NAK 6", " (the device demands Secure Channel for it)"),
+                          ("NAK 200", " (for a reason that the standard doesn't have)"), ("ACK", ""), ("OSTATR 00", "")):
+        line = Panel(5)
+        line.panel.devices[0].orders.append("OUT 9:2:0")
+        line.panel.heed(f"settled 1 OUT 9:2:0 = {reply}")
+        asks((line.told, line.panel.met, line.panel.devices[0].orders), ([f"settled 5 OUT 9:2:0 = {reply}{wanted}"], int(wanted != ""), []), f"an order that is answered {reply}")
+
+
+def looks_at_openings():
+    """What a device is stands in words where its session opens, as `find` has it."""
+    line = Panel(5, 6)
+    line.panel.heed(f"opened 2 {PDID('53494D', 1, 9, 12345)}")
+    asks(line.told, ["online 6 maker 53494D model 1 version 9 serial 12345 firmware 1.2.3"], "a session that opens")
+
+
+def looks_at_quits():
+    """`quit` ends the program as Ctrl-C does. The lines before it are taken, and those after it aren't."""
+    for lines, taken, told in ((["5 on", "quit", "5 off", None], ["5 on"], ["not taken 5 off: the program ends", "not taken a line: the program ends"]), (["q"], [], []), (["exit", "quit"], [], ["not taken quit: the program ends"])):
+        ended, said = [], []
+        console = SimpleNamespace(quits=lambda: ended.append(True), say=said.append)
+        asks((main.until_quit(lines, console), said, ended), (taken, told, [True]), f"the lines {lines}")
+    for lines in ([], ["5 on", None], ["quit 5", "5 quit"]):
+        asks(main.until_quit(lines, None), lines, f"the lines {lines}")
+
+
+def looks_at_floods():
+    """What an opening passes over again and again is told once in ten seconds."""
+    line = Panel(5)
+    for moment, told, wanted in ((0, "seq 2 ACK", True), (100, "seq 2 ACK", False), (200, "seq 3 ACK", False), (300, "NAK 6", True), (9999, "seq 1 ACK", False), (10000, "seq 1 ACK", True), (10001, "NAK 6", False)):
+        line.now = moment
+        line.told.clear()
+        line.panel.heed(f"passed over 1 {told}")
+        asks(line.told, [f"passed over 5 {told}"] if wanted else [], f"{told} at {moment}")
 
 
 def looks_at_losses():
@@ -204,7 +241,7 @@ def looks_at_rounds():
 
 
 def looks_at_the_rest(folder):
-    asks((main.END, rounds.PAUSE, panel.HEALS, panel.MOST, reader.ABSENT[1]), (5.0, 1000, 2, 16, "10000"), "the numbers of the manual")
+    asks((main.END, rounds.PAUSE, line_rate.HEALS, devices.MOST, reader.ABSENT[1]), (5.0, 1000, 2, 16, "10000"), "the numbers of the manual")
     path = folder / "trace"
     for text, wanted in (("# rate 9600\n", "has a trace of a line"), ('{"timeSec":"1"}\n', "has a trace of a line"), ("heard 0 0 none\n", None), ("", None)):
         path.write_text(text)
@@ -222,7 +259,7 @@ def looks_at_the_rest(folder):
 
 
 def run():
-    for looks in (looks_at_identities, looks_at_orders, looks_at_losses, looks_at_the_reader, looks_at_a_reader_that_stays, looks_at_rounds):
+    for looks in (looks_at_refusals, looks_at_openings, looks_at_quits, looks_at_floods, looks_at_identities, looks_at_orders, looks_at_losses, looks_at_the_reader, looks_at_a_reader_that_stays, looks_at_rounds):
         looks()
     with tempfile.TemporaryDirectory() as name:
         looks_at_the_rest(Path(name))

@@ -12,7 +12,8 @@ from terminals import Script
 TOP = Path(__file__).resolve().parent.parent
 NUMBERS = {str(address): str(number) for number, address in enumerate(line.ADDRESSES, 1)}
 REFUSED = re.compile(r"not taken (\d+) (OUT [\d:]+): .*")
-TOLD = re.compile(r"(ordered|opened|settled|withdrawn|event|maybe-again|lost|unread) (\d+) ?(.*)")
+TOLD = re.compile(r"(ordered|online|settled|withdrawn|event|maybe-again|lost|unread) (\d+) ?(.*)")
+SAME = {"maybe-again": "event", "online": "opened"}
 
 
 class Panel(Script):
@@ -32,7 +33,7 @@ class Panel(Script):
         if refused := REFUSED.fullmatch(told):
             return [f"ordered {NUMBERS[refused[1]]} {refused[2]}", f"not taken {NUMBERS[refused[1]]} {refused[2]}"]
         if found := TOLD.fullmatch(told):
-            return [f"{found[1].replace('maybe-again', 'event')} {NUMBERS[found[2]]} {found[3].partition(' keys ')[0]}".rstrip()]
+            return [f"{SAME.get(found[1], found[1])} {NUMBERS[found[2]]} {found[3].partition(' keys ')[0]}".rstrip()]
         return []  # the port, or advice
 
 

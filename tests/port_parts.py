@@ -13,11 +13,12 @@ from types import SimpleNamespace
 
 sys.dont_write_bytecode = True
 sys.path.insert(0, str(Path(__file__).resolve().parent.parent / "port"))
-from osdp_port import cards, doors, figures, find, pace, panel, reader, rounds, trace  # noqa: E402
+from osdp_port import cards, doors, figures, find, live, pace, panel, reader, rounds, trace, turns  # noqa: E402
 from osdp_port.advice import OFTEN, Advice  # noqa: E402
 from osdp_port.console import Console  # noqa: E402
-from osdp_port.faults import Refused  # noqa: E402
+from osdp_port.faults import Refused, Stop  # noqa: E402
 from osdp_port.outputs import Outputs  # noqa: E402
+from osdp_port.words import Words  # noqa: E402
 
 faults = []
 
@@ -195,7 +196,7 @@ def looks_at_words():
     for line, wanted in ((b"5 open", "5 open"), (b"5 open\r", "5 open"), (b"x" * 8192, "x" * 8192), (b"x" * 8193, None), (b"~ \x20", "~  "), (b"\x7f", None), (b"\x1f", None), (b"\t", None), ("é".encode(), None)):
         asks(Console.text(line), wanted, f"the line {line[:9]}")
     # as the manual has the settings that stand before those that are given
-    asks(panel.SETTINGS, ("busy-limit", "4", "busy-wait", "200", "poll-between-orders", "on"), "the settings of a panel")
+    asks(panel.SETTINGS, ("busy-limit", "4", "busy-wait", "200"), "the settings of a panel")
     asks(reader.ABSENT, ("expire", "10000", "presence", "on"), "the settings of a reader")
 
 
@@ -221,6 +222,7 @@ class Advised:
         self.said.clear()
 
 
+CABLE = "device 5 answered until now, and nothing comes any more: its power, or the two wires"
 SILENT, NOISE = "device 5 doesn't answer: its power", "bytes come, but no answer of device 5: another rate or check"
 CAUSES = (
     ("lost 5 too-busy", "device 5 is busy each time"), ("lost 5 number-refused", "device 5 keeps to another session"), ("passed over 5 block 0218", "device 5 demands Secure Channel"),
@@ -241,14 +243,22 @@ def looks_at_advice():
     line.says([NOISE], "a device with noise")
     line.asks_device(5, answer=b"an answer")
     line.asks_device(5, repeats=2)  # since the last new packet nothing has come
-    line.advice.heard("opened 6 PDID")
+    line.advice.heard("online 6 PDID")
     line.advice.heard("lost 5 no-reply")
     line.says([], "a device whose sentences were told")
-    line.advice.heard("opened 5 PDID")
+    line.advice.heard("online 5 PDID")
     line.asks_device(5, answer=b"an answer")
     line.asks_device(5, repeats=2)
     line.advice.heard("lost 5 no-reply")
-    line.says([SILENT], "a device that was open again and fell silent")
+    line.says([CABLE], "a device that was open and fell silent")
+    line.asks_device(5, repeats=2)
+    line.advice.heard("lost 5 no-reply")
+    line.says([], "a device that stays silent")
+    line.advice.heard("online 5 PDID")
+    line.asks_device(5, answer=b"an answer")
+    line.asks_device(5, repeats=2, answer=b"\xff")
+    line.advice.heard("lost 5 no-reply")
+    line.says(["device 5 answered until now, and what comes can't be read: a loose wire"], "a device that was open, with noise")
     for told, wanted in CAUSES:
         line = Advised()
         line.advice.heard(told)
@@ -293,6 +303,7 @@ class Sought:
         self.answers = answers  # what is answered to a COMSET, in place of the COM: nothing is done then but what the answer says
         self.port, self.wait, self.latency = SimpleNamespace(path="PORT", rate=rate, has_own_rate=True), find.ANSWER, 0.0
         self.asked, self.said, self.stops = [], [], 0
+        self.noise = ()  # the rates at which there is noise
 
     def goes(self, rate):
         self.port.rate = rate
@@ -301,6 +312,10 @@ class Sought:
     @staticmethod
     def is_going():
         return True
+
+    def hears(self):
+        """Whether bytes come though nobody is asked."""
+        return self.port.rate in self.noise
 
     def say(self, line):
         self.said.append(line)
@@ -316,6 +331,8 @@ class Sought:
                 self.devices[at] = (*(self.other or place), *each[2:])
                 return [(each[0], told)]
         self.latency = max((each[3] for each in heard), default=self.latency)
+        if self.port.rate in self.noise and len(self.asked) % 3:  # each third answer can be read
+            return [(0, "noise"), (1, "noise")]
         return [(each[0], "PDID " + (IDENTITY if not self.other or each[:2] != self.other else "53494D 1 2 54321 1 2 3")) for each in heard]
 
     @staticmethod
@@ -340,7 +357,7 @@ class Sought:
 def looks_at_searches():
     """One device is asked for by 127 at each rate with both checks, and then at the address that its answer had, within three times as long as that took."""
     line = Sought((100, 38400, "crc", 0.06))
-    asks([str(each) for each in line.searched().found], [f"found address 100 rate 38400 check crc maker 53494D model 1 version 2 serial 12345 firmware 1.2.3"], "one device")
+    asks([str(each) for each in line.searched().found], ["found address 100 rate 38400 check crc maker 53494D model 1 version 2 serial 12345 firmware 1.2.3"], "one device")
     asks([each[:3] for each in line.asked], [*((rate, check, 127) for rate in (9600, 19200) for check in ("crc", "sum")), (38400, "crc", 127), (38400, "crc", 100)], "what is asked of one device")
     asks([each[5] for each in line.asked], [0.2] * 5 + [0.18], "how long one device is waited for")
     line = Sought((3, 9600, "sum", 0.01))
@@ -376,8 +393,111 @@ def looks_at_changes():
     asks((line.found(address=7), [each[3] for each in line.asked if each[3] != "ID 0"]), (1, []), "one of several devices")
 
 
+def looks_at_taken_places():
+    """No device is sent to a place where another one answers, also at a rate that the search has skipped; and the rates that it skips are told."""
+    for other, wanted in (((6, 19200, "crc", 0.01), (1, [])), ((6, 19200, "sum", 0.01), (1, [])), ((7, 19200, "crc", 0.01), (0, ["COMSET 6 19200"]))):
+        line = Sought((5, 9600, "crc", 0.01), other)
+        asks((line.found(address=6, rate=19200), [each[3] for each in line.asked if each[3] != "ID 0"]), wanted, f"a device that is to go where {other} may be")
+        asks("not asked: rates 19200, 38400, 57600, 115200, 230400" in "\n".join(line.said), True, f"which rates were skipped: {line.said}")
+        asks(any(told.startswith("another device answers at address 6 rate 19200") for told in line.said), wanted[0] == 1, f"what is told of a place that is taken: {line.said}")
+    line = Sought((5, 9600, "crc", 0.01), (5, 19200, "crc", 0.01))
+    asks((line.found(rate=19200), [each[3] for each in line.asked if each[3] != "ID 0"]), (1, []), "a device that is to get a rate at which another one has its address")
+    asks("not asked" in "\n".join(Sought((5, 230400, "crc", 0.01)).said), False, "no rate is skipped")
+
+
+def looks_at_shared_addresses():
+    """Two devices at one address are told as such, once, and the end says so. Noise is told once, as noise; a device whose answer comes through is found, and none is set."""
+    line = Sought((5, 9600, "crc", 0.01), (5, 9600, "crc", 0.02))
+    asks((line.found(), sum(told.startswith("several devices answer at address 5, rate 9600") for told in line.said)), (1, 1), f"two devices at one address: {line.said}")
+    asks(line.said[-1].startswith("no device is alone at its address: several answer at address 5 rate 9600"), True, f"what is told at the end of two at one address: {line.said}")
+    asks([each for each in line.asked if each[1] == "sum" and each[0] == 9600], [], "two at one address are asked with the other check too")
+    line = Sought()
+    line.noise = find.RATES
+    asks((line.found(), sum("several" in told for told in line.said), sum(told.startswith("bytes come though nobody is asked") for told in line.said)), (1, 0, 1), f"noise: {line.said}")
+    asks((line.said[-1].startswith("no device found: bytes come"), len(line.asked) <= 6 * 2 * 3), (True, True), f"what is told at the end of noise, after {len(line.asked)} packets: {line.said}")
+    line = Sought((5, 19200, "crc", 0.01))
+    line.noise = (19200,)
+    asks((line.found(), [told for told in line.said if told.startswith("found address 5 rate 19200")] != []), (0, True), f"one device with noise: {line.said}")
+    line = Sought((5, 9600, "crc", 0.01))
+    line.noise = (9600,)
+    asks((line.found(address=7), [each[3] for each in line.asked if each[3] != "ID 0"]), (1, []), f"one device with noise is set: {line.said}")
+
+
+class Stopped:
+    """A port whose program is stopped after a read, the first time a packet has gone out: the answer of 20 ms comes meanwhile. Time goes on by 5 ms with each wait."""
+
+    def __init__(self, stops):
+        self.now, self.stops, self.written, self.due = 100.0, stops, 0, None
+        self.path, self.rate, self.is_there = "PORT", 9600, True
+
+    def write(self, burst):
+        self.written, self.due = self.written + 1, self.now + 0.02
+
+    def read(self):
+        read, is_due = b"", self.due is not None and self.now >= self.due
+        if is_due:
+            read, self.due = b"an answer", None
+        if self.stops and self.due is not None:
+            self.stops -= 1
+            self.now += 5
+        return read
+
+
+def looks_at_standstill():
+    """A question within which the program stood still is asked again; where it does so each time nobody is told to be there, or not to be."""
+    kept = find.time, find.wait_for, turns.time
+
+    def waits(port, console, seconds, lines=True):
+        port.port.now += 0.005
+
+    try:
+        for stops, wanted in ((0, (b"an answer", 1)), (1, (b"an answer", 2)), (3, (b"an answer", 4)), (99, None)):
+            port = Stopped(stops)
+            find.time = SimpleNamespace(monotonic=lambda: port.now, sleep=None)
+            turns.time, find.wait_for = SimpleNamespace(clock_gettime=lambda _: port.now), waits
+            line = find.Line(port, SimpleNamespace(stops=0), "osdp")
+            line.packet = lambda *_: b"a packet"
+            try:
+                asks((line.ask(5, 0, "crc", "ID 0"), port.written), wanted, f"a question, {stops} standstills")
+            except Stop as stop:
+                asks((wanted, stop.why.startswith("the program stands still again and again")), (None, True), f"a question, {stops} standstills")
+    finally:
+        find.time, find.wait_for, turns.time = kept
+
+
+def looks_at_settings():
+    """A time of a setting may have its unit. Where addresses have commas and spaces, the hint has each comma once."""
+    for words, wanted in (("reply-wait 400ms", "reply-wait 400"), ("reply-wait 400", "reply-wait 400"), ("poll-interval 1s gap 20ms", "poll-interval 1000 gap 20"), ("expire 10s", "expire 10000"),
+                          ("check sum", "check sum"), ("vendor 53494D", "vendor 53494D"), ("reply-wait 4x", "reply-wait 4x"), ("serial 10s", "serial 10s"), ("reply-wait", "reply-wait"), ("reply-wait 1.5s", "reply-wait 1500")):
+        asks(" ".join(Words(["PORT", "9600", "panel", "5", *words.split()]).rest[1:]), wanted, words)
+    for words, wanted in ((("5,", "6"), "as 5,6;"), (("5", "6"), "as 5,6;"), (("5,6,", "7"), "as 5,6,7;")):
+        try:
+            Words(["PORT", "9600", "panel", *words])
+            asks(None, wanted, f"{words}")
+        except Stop as stop:
+            asks(wanted in stop.why, True, f"the hint for {words}: {stop.why}")
+
+
+TABLE = """device  asked  polls repeats  answered  busy  nak  events  opened  moved  judged  forgot  accused
+5          11      0       0         0     0   11       0       0      0      19       1        7
+126    123456 123456       0    123456     0    0       0       1      0  123456       0        0
+runs 22 packets 22 skipped 0 refused 0 judged 19 accused 7""".splitlines()
+
+
+def looks_at_narrow_tables():
+    """Who is accused stands on a narrow terminal too; on a wide one the table is that of the program."""
+    asks(live.narrowed(TABLE, 100), TABLE, "a table on a wide terminal")
+    for width in (80, 60, 40):
+        rows = [line.split() for line in live.narrowed(TABLE, width)]
+        asks((max(len(line) for line in live.narrowed(TABLE, width)[:3]) <= width, rows[0][0], rows[0][-1], rows[1][0], rows[1][-1], rows[2][-1], rows[3]),
+             (True, "device", "accused", "5", "7", "0", TABLE[3].split()), f"a table on {width} columns")
+        asks([len(row) for row in rows[:3]], [len(rows[0])] * 3, f"the columns of a table on {width} columns")
+    asks(live.narrowed(TABLE, 80)[0].split(), [name for name in TABLE[0].split() if name not in ("forgot", "moved")], "the columns on 80")
+    asks(live.narrowed([], 80), [], "no table")
+
+
 def main():
-    for looks in (looks_at_cards, looks_at_captures, looks_at_figures, looks_at_outputs, looks_at_words, looks_at_advice, looks_at_repeats, looks_at_traces, looks_at_searches, looks_at_changes):
+    for looks in (looks_at_standstill, looks_at_narrow_tables, looks_at_settings, looks_at_taken_places, looks_at_shared_addresses, looks_at_cards, looks_at_captures, looks_at_figures, looks_at_outputs, looks_at_words, looks_at_advice, looks_at_repeats, looks_at_traces, looks_at_searches, looks_at_changes):
         looks()
     for fault in faults:
         print(f"port_parts: {fault}")

@@ -13,9 +13,9 @@ from types import SimpleNamespace
 
 sys.dont_write_bytecode = True
 sys.path.insert(0, str(Path(__file__).resolve().parent.parent / "port"))
-from osdp_port import keep, listen, live, main, owner, panel, program, serial_port, shown, trace, words  # noqa: E402
+import stores  # noqa: E402
+from osdp_port import devices, keep, listen, live, main, owner, program, serial_port, shown, trace, words  # noqa: E402
 from osdp_port.faults import Stop  # noqa: E402
-from osdp_port.rounds import Place  # noqa: E402
 
 faults = []
 
@@ -33,54 +33,34 @@ def stop_of(does):
         return stop.status, stop.why
 
 
-STANDS = (  # lines of a panel's file, and what is read of each device; none where the file is refused
-    ("5 at 7 9600\n", {5: ([(7, 9600)], None)}),
-    ("# a comment\n\n5 at 7 9600 or 5 9600 is 53494D 1 12\n0 at 126 1\n", {5: ([(7, 9600), (5, 9600)], ("53494D", "1", "12")), 0: ([(126, 1)], None)}),
-    ("5 at 7 9600 or 5 9600 or 5 19200\n", {5: ([(7, 9600), (5, 9600), (5, 19200)], None)}),
-    ("5 at 7 9600 or 5 9600 or 5 19200 or 6 9600\n", None), ("5 at 127 9600\n", None), ("5 at 7 0\n", None), ("5 at -1 9600\n", None), ("5 at 7\n", None), ("5 at 7 9600 1\n", None),
-    ("5 at 7 9600 is 53494D 1\n", None), ("5 at 7 9600 is 53494D 1 12 3\n", None), ("5 at 7 9600\n5 at 8 9600\n", None), ("x at 7 9600\n", None), ("5\n", None), ("nonsense\n", None),
+STANDS = (  # lines of a panel's store, and what is read of each device
+    (("5 at 7 9600",), {5: ([(7, 9600)], None)}), ((), {}),
+    (("5 at 7 9600 or 5 9600 is 53494D 1 12", "0 at 126 1"), {5: ([(7, 9600), (5, 9600)], ("53494D", "1", "12")), 0: ([(126, 1)], None)}),
+    (("5 at 7 9600 or 5 9600 or 5 19200",), {5: ([(7, 9600), (5, 9600), (5, 19200)], None)}),
 )
-PLACES = (("7 9600\n", Place(7, 9600)), ("0 4000000", Place(0, 4000000)), ("126 1\n", Place(126, 1)), ("127 9600\n", None), ("7 0\n", None), ("7 4000001\n", None), ("7\n", None), ("7 9600 1\n", None),
-          ("7 9600\n8 9600\n", None), ("", None), ("-7 9600\n", None))
+REFUSED = ("5 at 7 9600 or 5 9600 or 5 19200 or 6 9600", "5 at 127 9600", "5 at 7 0", "5 at -1 9600", "127 at 7 9600", "5 at 7 4294967296")  # no store takes these
 
 
 def looks_at_places(folder):
-    path = folder / "places"
-    for text, wanted in STANDS:
-        path.write_text(text)
-        read = stop_of(lambda: {name: ([(each.address, each.rate) for each in known.places], known.identity) for name, known in keep.PanelPlaces(str(path)).read().items()})
-        is_told = isinstance(read, tuple) and read[0] == 3 and f"the kept places can't be read: {path}, line " in read[1]
-        asks(read if wanted is not None else is_told, wanted if wanted is not None else True, f"a panel's file {text!r}")
-    for text, wanted in PLACES:
-        path.write_text(text)
-        read = stop_of(lambda: keep.ReaderPlace(str(path)).read())
-        asks(read, wanted or (3, f"the kept place can't be read: {path}"), f"a reader's file {text!r}")
-
-
-def looks_at_the_disk(folder):
-    """The new file is on the disk before it takes the place of the old one, and its name after that. What can't be written leaves no new file."""
-    path, did = folder / "disk", []
-    kept = {name: getattr(keep.os, name) for name in ("fsync", "replace")}
-
-    def synced(file):
-        did.append("the name" if os.path.isdir(f"/proc/self/fd/{file}") else f"the file {Path(f'{path}.new').read_text()!r}")
-        kept["fsync"](file)
-
-    def replaced(new, old):
-        did.append("its place")
-        kept["replace"](new, old)
-
-    keep.os.fsync, keep.os.replace = synced, replaced
-    try:
-        keep.write_whole(str(path), "7 9600\n")
-        keep.os.fsync = lambda file: (_ for _ in ()).throw(OSError(errno.EIO, "the disk"))
+    for at, (lines, wanted) in enumerate(STANDS):
+        path = folder / f"places{at}"
+        stores.write(path, *lines)
+        kept = keep.PanelPlaces(str(path))
+        asks({name: ([(each.address, each.rate) for each in known.places], known.identity) for name, known in kept.read().items()}, wanted, f"a panel's store {lines}")
+        kept.close()
+        asks(stores.text(path), "".join(f"{line}\n" for line in sorted(lines)), f"a panel's store {lines} as it is written")
+    for at, line in enumerate(REFUSED):
         try:
-            keep.write_whole(str(path), "8 9600\n")
-        except OSError as error:
-            did.append(error.strerror)
-    finally:
-        keep.os.fsync, keep.os.replace = kept["fsync"], kept["replace"]
-    asks((did, path.read_text(), sorted(each.name for each in folder.glob("disk*"))), (["the file '7 9600\\n'", "its place", "the name", "the disk"], "7 9600\n", ["disk"]), "how a file is written")
+            stores.write(folder / f"refused{at}", line)
+            asks(line, "nothing", "what a store takes")
+        except stores.store.StoreError as error:
+            asks("can't be written" in str(error), True, f"a store that gets {line!r}: {error}")
+    path = folder / "place"
+    stores.write(path, role="device")
+    asks(keep.ReaderPlace(str(path)).begins.__self__.read(), None, "a reader's store without a place")
+    two = folder / "two"
+    stores.write(two, "5 at 5 9600", "6 at 6 9600", role="device")
+    asks(stop_of(lambda: keep.ReaderPlace(str(two)).read()), (3, f"{two} keeps 2 devices, and a reader is one: name another file"), "a reader's store with two devices")
 
 
 def looks_at_sizes(folder):
@@ -283,9 +263,9 @@ def refused(*given):
 def looks_at_words():
     """Each option goes with the commands that the manual names, and with no other."""
     of = {"monitor": (), "show": (), "find": (), "panel": ("5",), "reader": ("5",), "test": ("device", "5"), "trace": ("FILE",)}
-    fits = {("--all",): "monitor show panel reader", ("--address", "5"): "monitor show", ("--every", "5"): "monitor", ("--live",): "monitor", ("--json",): "monitor", ("--keep", "FILE"): "panel reader",
+    fits = {("--all",): "monitor show panel reader", ("--address", "5"): "monitor show", ("--every", "5"): "monitor", ("--live",): "monitor", ("--json",): "monitor", ("--keep", "FILE"): "panel reader", ("--new", "--keep", "FILE"): "panel reader",
             ("--trace", "FILE"): "panel reader test", ("--size", "5", "--trace", "FILE"): "panel reader", ("--size", "5"): "trace", ("--osdpcap",): "trace", ("--osdpcap", "--trace", "FILE"): "panel reader",
-            ("--may", "silence"): "test", ("--sum",): "test", ("--tap",): "test", ("--set-address", "5"): "find", ("--set-rate", "9600"): "find", ("--plain",): " ".join(of)}
+            ("--may", "silence"): "test", ("--sum",): "test", ("--go-on",): "test", ("--tap",): "test", ("--set-address", "5"): "find", ("--set-rate", "9600"): "find", ("--plain",): " ".join(of)}
     for option, commands in fits.items():
         asks(" ".join(command for command, rest in of.items() if not refused(*option, "PORT", "9600", command, *rest)), " ".join(each for each in of if each in commands.split()), f"what {option} goes with")
     for option, most in (("--address", 126), ("--set-address", 126), ("--every", 3600000), ("--size", 100000), ("--set-rate", 4000000)):
@@ -295,19 +275,19 @@ def looks_at_words():
     for word, wanted in (("5", [5]), ("0-2,126", [0, 1, 2, 126]), ("6,5", [6, 5]), ("5-5", [5]), ("127", None), ("2-1", None), ("5,", None), ("", None), ("1-", None), ("5-127", None)):
         asks(stop_of(lambda: words.addresses(word)) if wanted else isinstance(stop_of(lambda: words.addresses(word)), tuple), wanted or True, f"the addresses {word}")
     for names, wanted in ((range(16), 16), (range(17), "device 16 is the 17th of the list: a line has at most 16"), ([5, 5], "device 5 stands twice in the list: each has an address of its own"), ([127], "address 127: an address is a number from 0 to 126")):
-        made = stop_of(lambda: panel.new_devices(list(names), 9600, None))
+        made = stop_of(lambda: devices.new_devices(list(names), 9600, None))
         asks(made[1] if isinstance(made, tuple) else len(made), wanted, f"a panel of {list(names)}")
 
 
 def run():
     with tempfile.TemporaryDirectory() as name:
-        for looks in (looks_at_places, looks_at_the_disk, looks_at_sizes):
+        for looks in (looks_at_places, looks_at_sizes):
             looks(Path(name))
     for looks in (looks_at_bursts, looks_at_the_port, looks_at_pulled_ports, looks_at_owners, looks_at_lines, looks_at_options, looks_at_live, looks_at_words):
         looks()
     for fault in faults:
         print(f"port_pieces: {fault}")
-    print(f"port_pieces: {len(STANDS) + len(PLACES)} files of places, {len(faults)} faults")
+    print(f"port_pieces: {len(STANDS) + len(REFUSED)} stores, {len(faults)} faults")
     return 1 if faults else 0
 
 

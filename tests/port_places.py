@@ -11,11 +11,11 @@ import tempfile
 import time
 from pathlib import Path
 
+import stores
 from simulated import Line, Panel, Port, Reader, new_devices
 
 COMSET, COM, NAK, ID, POLL, OUT = 0x6E, 0x54, 0x41, 0x61, 0x60, 0x68
 SETTINGS = ((), ("reply-wait", "400"), ("sends", "1"), ("sends", "2", "reply-wait", "50", "poll-interval", "10", "quiet-wait", "150"), ("check", "sum", "quiet-wait", "1000"))
-BETWEEN = ("poll-between-orders", "on")
 TOGETHER = 6  # rounds within which all are at one rate again
 osdp = ""
 faults = []
@@ -39,7 +39,7 @@ def opened_line(count, settings=(), names=(5, 6, 7), keep=None):
 
 def is_settled(line):
     """All sessions are open, and no COMSET is on its way."""
-    return line.all_open() and not any(device.orders or device.move for device in line.panel.devices)
+    return line.all_open() and not any(device.orders for device in line.panel.devices)
 
 
 def order_each(line, what, timer=[0]):
@@ -61,13 +61,13 @@ def loses_once(line, count, settings, what, loses, addresses=(5, 6, 7), before=(
     for order in (*before, "5 rate 19200"):
         line.order(order)
     what = f"{count} readers, {settings}, {what}"
-    asks(line.run(lambda: not any(device.orders or device.move for device in line.panel.devices), 60), f"{what}: an order has no end")
+    asks(line.run(lambda: not any(device.orders for device in line.panel.devices), 60), f"{what}: an order has no end")
     line.loses = lambda way, burst: False
     began, told, reached = line.panel.rounds.number, len(line.told), set()
 
     def looks():
         reached.update(device.name for device in line.panel.devices
-                       if line.panel.rounds.is_reached(device) or any(each.startswith(f"opened {device.address} ") for each in line.told[told:]))
+                       if line.panel.rounds.is_reached(device) or any(each.startswith(f"online {device.address} ") for each in line.told[told:]))
         return len(reached) == count
 
     asks(line.run(looks, 60), f"{what}: never reached: {set(addresses[:count]) - reached}")
@@ -135,8 +135,8 @@ def new_addresses():
 
 
 def moves_after_orders():
-    """A COMSET right after orders goes out once these have their ends and a POLL has gone out. Where the session is lost before, it is taken back, and the place stays."""
-    line, sent = opened_line(1, BETWEEN), []
+    """A COMSET right after orders goes out after these, and after a POLL. Where the session is lost before, it is taken back, and the place stays."""
+    line, sent = opened_line(1), []
     line.loses = lambda way, burst: way == "out" and sent.append(burst[5])
     for order in ("5 on", "5 off", "5 move 9", "5 on"):
         line.order(order)
@@ -146,7 +146,7 @@ def moves_after_orders():
     asks(at > 1 and sent[at - 1] == POLL and sent[:at].count(OUT) == 2, f"moves: sent were {[f'{code:02X}' for code in sent[:at + 1]]}")
     order_each(line, "moves")
     line.close()
-    line = opened_line(1, BETWEEN)
+    line = opened_line(1)
     for order in ("5 on", "5 move 9"):
         line.order(order)
     line.loses = lambda way, burst: True
@@ -271,14 +271,14 @@ def killed_in_doubt(folder):
         line.loses = lambda way, burst, loses=loses: burst[5] == loses
         line.order("5 move 9 19200")
         line.run(lambda: any(burst[5] == COMSET for _, burst in line.bursts), 5)
-        asks("5 at 5 9600 or 9 19200" in keep.read_text(), f"doubt: as the COMSET goes out the file has {keep.read_text()!r}")
+        asks("5 at 5 9600 or 9 19200" in stores.text(keep), f"doubt: as the COMSET goes out the file has {stores.text(keep)!r}")
         line.run(lambda: False, 0.05)
         line.stop_panel()
         line.loses = lambda way, burst: False
         line.add_panel([5, 6], keep=keep)
         asks(line.run(line.all_open, 60), f"doubt: not found: {line.told[-6:]}")
         order_each(line, "doubt")
-        asks(" or " not in keep.read_text(), "doubt: the file is still in doubt")
+        asks(" or " not in stores.text(keep), "doubt: the file is still in doubt")
         line.close()
 
 
@@ -286,7 +286,7 @@ def another_device(folder):
     """Another device stands where one was: it is told, and gets no order until it is accepted. The file knows it after a restart too."""
     keep = Path(folder) / "another"
     line = opened_line(1, keep=keep)
-    asks("is 000000 0 1" in keep.read_text(), f"another: the file has {keep.read_text()!r}")
+    asks("is 000000 0 1" in stores.text(keep), f"another: the file has {stores.text(keep)!r}")
     line.stop_reader("5.0")
     line.run(lambda: any(told.startswith("lost 5") for told in line.told), 10)
     name = line.add_reader(5, serial=99)
@@ -300,7 +300,7 @@ def another_device(folder):
     asks(line.run(line.all_open, 10), "another: no session")
     line.order("5 accept")
     order_each(line, "another")
-    asks("is 000000 0 99" in keep.read_text(), "another: it isn't kept")
+    asks("is 000000 0 99" in stores.text(keep), "another: it isn't kept")
     line.close()
 
 
@@ -309,7 +309,7 @@ def other_at_one_place(folder):
     told once, gets no order, and is accepted by its address."""
     for at, (first, second) in enumerate((("7 9600", "5 9600"), ("5 9600", "7 19200"), ("7 19200", "5 9600"))):
         keep = Path(folder) / f"one_place{at}"
-        keep.write_text(f"5 at {first} or {second} is 000000 0 1\n6 at 6 9600 is 000000 0 2\n")
+        stores.write(keep, f"5 at {first} or {second} is 000000 0 1", "6 at 6 9600 is 000000 0 2")
         line = Line(osdp)
         other, here = (tuple(map(int, place.split())) for place in (first, second))
         stranger = line.add_reader(other[0], rate=other[1], serial=99)
@@ -318,12 +318,12 @@ def other_at_one_place(folder):
         line.add_panel([5, 6], keep=keep)
         what = f"one place, {first} and {second}"
         asks(line.run(lambda: line.all_open() and not line.panel.devices[0].other and len({device.place.rate for device in line.panel.devices}) == 1, 120), f"{what}: not found: {line.told[-8:]}")
-        asks(" or " not in keep.read_text() and "is 000000 0 1\n" in keep.read_text(), f"{what}: the file has {keep.read_text()!r}")
+        asks(" or " not in stores.text(keep) and "is 000000 0 1\n" in stores.text(keep), f"{what}: the file has {stores.text(keep)!r}")
         order_each(line, what)
         asks(not any("OUT" in told for told in line.acted[stranger]), f"{what}: another device got an order")
         line.close()
     keep = Path(folder) / "neither"
-    keep.write_text("5 at 5 9600 or 7 9600 is 000000 0 1\n")
+    stores.write(keep, "5 at 5 9600 or 7 9600 is 000000 0 1")
     line = Line(osdp)
     line.add_reader(7, serial=99)
     line.add_panel([5], keep=keep)
@@ -335,7 +335,7 @@ def other_at_one_place(folder):
     asks("not taken 5 accept" in line.told[-2] and line.told[-1] == "accepted 7", f"neither: the words are answered {line.told[-2:]}")
     asks(line.run(lambda: line.all_open() and not line.panel.devices[0].is_left, 60), f"neither: its session doesn't open: {line.told[-8:]}")
     order_each(line, "neither")
-    asks(keep.read_text().endswith("5 at 7 9600 is 000000 0 99\n"), f"neither: the file has {keep.read_text()!r}")
+    asks(stores.text(keep) == "5 at 7 9600 is 000000 0 99\n", f"neither: the file has {stores.text(keep)!r}")
     line.close()
 
 
@@ -357,7 +357,7 @@ def new_lines():
     panel = Panel(Port(line, 9600), Told("due none", "opened 1 PDID 000000 0 0 1 0 0 0", "maybe-again 1 RAW 0 1 26 88889100", "offline 1", "new 1 words", "strange", "refused B9"),
                   new_devices([5], 9600, None), line.clock, said.append)
     panel.turn(b"", [])
-    asks(said == ["opened 5 PDID 000000 0 0 1 0 0 0", "maybe-again 5 RAW 0 1 26 88889100 bits 10001000100010001001000100 facility 17 number 4386", "offline 5", "new 5 words", "strange"],
+    asks(said == ["online 5 maker 000000 model 0 version 0 serial 1 firmware 0.0.0", "maybe-again 5 RAW 0 1 26 88889100 bits 10001000100010001001000100 facility 17 number 4386", "offline 5", "new 5 words", "strange"],
          f"new lines: the panel prints {said}")
     asks(not panel.devices[0].orders, "new lines: an order was made")
     said.clear()
@@ -369,15 +369,15 @@ def new_lines():
 
 
 def bad_files(folder):
-    """A file that keeps something else is refused, with its line."""
-    for at, text in enumerate(("5\n", "5 at 7\n", "5 at 7 x\n", "5 at 127 9600\n", "5 at 5 9600 is 1\n", "5 at 5 9600\n5 at 6 9600\n", "x at 5 9600\n")):
+    """A file that is no store is refused, by its name."""
+    for at, text in enumerate(("5\n", "5 at 5 9600\n", "nonsense" * 4096)):
         path = Path(folder) / f"bad{at}"
         path.write_text(text)
         try:
             Line(osdp).add_panel([5], keep=path)
-            asks(False, f"a file with {text!r} is taken")
+            asks(False, f"a file with {text[:9]!r} is taken")
         except Exception as error:
-            asks(f"{path}, line" in str(error), f"a file with {text!r}: {error!r}")
+            asks(f"{path} is no store of osdp. Bring back a copy of it" in str(error), f"a file with {text[:9]!r}: {error!r}")
 
 
 def main(path):

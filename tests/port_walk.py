@@ -15,6 +15,7 @@ from pathlib import Path
 
 import port_line
 import port_words
+import stores
 from port_line import ACK, COM, COMSET, ID, OUT, PANEL, PDID, POLL, PORT, IDENTITY, Device, Line, asks, faults, has, opened, taken, tells
 from terminals import Terminal, packet
 
@@ -75,7 +76,7 @@ def stolen_bytes():
         thief = subprocess.Popen(["timeout", "3", "cat"], stdin=line.panel_end.other, stdout=subprocess.DEVNULL)
         line.run(lambda: thief.poll() is not None)
         line.rests(1)
-        asks(line.run(lambda: sum(each.startswith("opened") for each in panel.lines) == 1 + sum(each.startswith("lost") for each in panel.lines)), "stolen: no session")
+        asks(line.run(lambda: sum(each.startswith("online") for each in panel.lines) == 1 + sum(each.startswith("lost") for each in panel.lines)), "stolen: no session")
         panel.say("5 on")
         asks(line.run(has(panel, "settled 5 OUT 0:2:0 = ACK")), f"stolen: no order is done: {panel.lines[-4:]}")
 
@@ -210,6 +211,14 @@ def ctrl_c():
         panel = line.panel("5")
         line.run(opened(panel, 5))
         asks(line.stops(panel) == 0, "Ctrl-C: a panel that met nothing has another status")
+    with Line() as line:  # quit, which a reader takes too
+        reader, panel = line.reader(0, 5), line.panel("5")
+        line.run(opened(panel, 5))
+        panel.say("5 on\nquit\n5 off")
+        asks(line.run(lambda: panel.process.poll() is not None, 20) and panel.process.poll() == 0, f"quit: status {panel.process.poll()}: {panel.lines[-3:]}")
+        asks(line.run(has(panel, "settled 5 OUT 0:2:0 = ACK", "not taken 5 off: the program ends"), 5), f"quit: {panel.lines[-4:]}")
+        reader.say("quit")
+        asks(line.run(lambda: reader.process.poll() is not None, 20) and reader.process.poll() == 0, f"quit: a reader has the status {reader.process.poll()}")
     with tempfile.TemporaryDirectory() as folder:
         said = bytes.fromhex("530508000061003F") + packet(0x85, 0, PDID, bytes.fromhex("53494D010101000000010000")) + packet(5, 1, POLL) + packet(0x85, 1, ACK) + packet(5, 2, 0x68, bytes([0, 2, 0, 0]))
         for words, status, wanted in ((["monitor"], 0, "device  asked"), (["show"], 0, "cmd 5 seq 0 sum ID 0"), (["trace", f"{folder}/trace"], 0, f"trace {folder}/trace: "),
@@ -231,12 +240,12 @@ def killed():
     with tempfile.TemporaryDirectory() as folder, Line(readers=2) as line:
         kept = [Path(folder) / f"reader{at}" for at in range(2)]
         places = Path(folder) / "panel"
-        readers = [line.reader(at, 5 + at, options=["--keep", kept[at]]) for at in range(2)]
-        panel = line.panel("5,6", *PANEL, options=["--keep", places])
+        readers = [line.reader(at, 5 + at, options=stores.options(kept[at])) for at in range(2)]
+        panel = line.panel("5,6", *PANEL, options=stores.options(places))
         asks(line.run(lambda: opened(panel, 5)() and opened(panel, 6)()), "killed: the sessions don't open")
         panel.say("5 move 7 19200")
         asks(line.run(lambda: opened(panel, 7)() and opened(panel, 6, 2)()), f"killed: not found at the new places: {panel.lines[-6:]}")
-        asks([each.read_text() if each.exists() else "" for each in kept] == ["7 19200\n", "6 19200\n"], "killed: the readers keep other places")
+        asks([stores.text(each) for each in kept] == ["5 at 7 19200\n", "6 at 6 19200\n"], "killed: the readers keep other places")
         readers[0].process.kill()
         asks(line.run(tells(panel, "lost 7")), "killed: the reader isn't lost")
         readers[0] = line.reader(0, 5, options=["--keep", kept[0]])
@@ -252,7 +261,7 @@ def killed():
         line.loses = lambda way, burst: burst[5] == COM
         again.say("7 move 9 19200")
         line.run(lambda: any(burst[1] == 7 and burst[5] == COMSET for _, burst in line.bursts))
-        asks("5 at 7 19200 or 9 19200" in places.read_text(), f"killed: both places aren't kept before a COMSET goes out: {places.read_text()} {again.lines[-4:]}")
+        asks("5 at 7 19200 or 9 19200" in stores.text(places), f"killed: both places aren't kept before a COMSET goes out: {stores.text(places)} {again.lines[-4:]}")
         line.stops(again)
         refused = line.panel("7,6", *PANEL, options=["--keep", places], stderr=subprocess.PIPE)
         refused.process.wait(timeout=60)

@@ -262,7 +262,7 @@ def falls_silent():
         asks(line.run(opened(panel, 5)), "falls silent: the session doesn't open")
         line.rests(0.5)  # POLLs are answered
         reader.process.kill()
-        asks(line.run(tells(panel, "advice: device 5 doesn't answer: its power"), 20), f"falls silent: no advice: {panel.lines[-5:]}")
+        asks(line.run(tells(panel, "advice: device 5 answered until now, and nothing comes any more: its power, or the two wires"), 20), f"falls silent: no advice: {panel.lines[-5:]}")
         asks(not any("bytes come" in each for each in panel.lines), f"falls silent: nothing comes, and the advice is {panel.lines[-5:]}")
 
 

@@ -1,12 +1,13 @@
 #!/usr/bin/env python3
 """Tests the package for Python, over the library that OSDP_LIBRARY names.
 
-- Its structs, functions and numbers are those of include/osdp.h.
+- Its structs, functions and numbers are those of include/osdp.h. It takes no library of another version, nor one whose structs have other sizes.
 - Each public name has a docstring, and each public call types.
 - A session between both ends: an order is done once, an event is told once, where answers are lost too; a device keeps what it is told, and lets old events go.
 - Each kind of report, each answer that a program sets, and the defaults of a device are those that the docstrings say; a closed machine gives its memory back.
+- Calls do their work when they are called, with no generator to be drained; bytes may be a bytearray or a memoryview; a message that is none is refused where it is made.
 - Each refusal comes as an OsdpError with its status, also to another process, and changes nothing; what ctypes would cut is no number for it.
-- A machine can't be copied.
+- A machine can't be copied, and threads that call one machine at the same time each get what they would get alone.
 - A monitor tells what the rows of `osdp monitor` have.
 - A door of the examples keeps the rate that its port has.
 - The example prints what docs/GUIDE.md promises of such a session."""
@@ -226,12 +227,15 @@ def judge_refusals():
                        ("an entry below 0", lambda: osdp.Panel().begin(-1, 0)), ("an entry of 2**64", lambda: osdp.Panel().waiting(2**64)),
                        ("a tamper of 256", lambda: osdp.Device(5).set_local(256, 0)), ("a busy of 2**32", lambda: osdp.Device(5).set_busy(2**32)),
                        ("a maker of two bytes", lambda: osdp.Device(5).answer_maker(b"SI", b"")), ("firmware of two numbers", lambda: osdp.Device(5, firmware=(1, 2))),
-                       ("an address of 2**32 of a panel", lambda: osdp.Panel().add(2**32)), ("a text of code 0x168", lambda: str(osdp.Message(0x168, bytes.fromhex("00051E00"), False)))):
+                       ("an address of 2**32 of a panel", lambda: osdp.Panel().add(2**32)), ("a command of code 300", lambda: osdp.Message(300, b"", False)),
+                       ("a code below 0", lambda: osdp.Message(-1, b"", True)), ("a reply that is too long", lambda: osdp.Message(0x53, bytes(1433), True)),
+                       ("a command that is too long", lambda: osdp.Panel().submit_message(0, 0x80, bytes(1433))), ("an event that is too long", lambda: osdp.Device(5).event_message(0x53, bytes(1433)))):
         try:
             call()
             faults.append(f"{what} is taken")
         except ValueError:
             pass
+    judge_messages()
     try:
         osdp.Panel(reply_waits=200)
         faults.append("a setting that there isn't is taken")
@@ -240,6 +244,57 @@ def judge_refusals():
     error = osdp.OsdpError(osdp.Status.NO_ENTRY)
     copied = pickle.loads(pickle.dumps(error))
     tell("a refusal in another process", (osdp.OsdpError, error.status, str(error)), (type(copied), copied.status, str(copied)))
+
+
+def judge_messages():
+    """A message of the longest data is made, of whatever has bytes; of a bytearray it has a copy. What has no bytes is refused: `bytes(5)` would be five zeros."""
+    tell("the longest message", 1432, len(osdp.Message(0x80, bytes(1432), False).data))
+    data = bytearray(b"\0\5\x1e\0")
+    message = osdp.Message(0x68, data, False)
+    data[0] = 9
+    tell("a message of a bytearray", ("OUT 0:5:30", bytes, True), (str(message), type(message.data), message == osdp.Message(0x68, memoryview(b"\0\5\x1e\0"), False)))
+    identify = bytes.fromhex("530508000061003F")
+    for kind in (bytes, bytearray, memoryview):
+        with osdp.Panel(check=0) as panel, osdp.Device(5, vendor=kind(b"SIM"), capabilities=kind(b"\2\1\4")) as device, osdp.Monitor() as monitor:
+            entry, told = panel.add(5), []
+            panel.submit_message(entry, 0x68, kind(b"\0\2\0\0")), panel.begin(entry, 0)
+            device.set_inputs(kind(b"\1")), device.set_outputs(kind(b"\0")), device.set_readers(kind(b"\0")), device.event_message(0x53, kind(b"\0\1\x31"))
+            for now in range(0, 2000, 10):
+                for answer in device.hear(kind(panel.tick(now)), now):
+                    panel.hear(kind(answer.data), now)
+                told += [str(report.reply) for report in panel.reports()]
+            monitor.hear(kind(identify))
+            tell(f"bytes as {kind.__name__}", ["PDID 53494D 0 0 0 0 0 0", "ACK", "KEYPAD 0 31"], told)
+    for what in (5, "53", None, [0x53]):
+        for call in (lambda: osdp.Message(0x80, what, False), lambda: osdp.Panel().hear(what, 0), lambda: osdp.Device(5).hear(what, 0), lambda: osdp.Monitor().hear(what),
+                     lambda: osdp.Device(5).set_inputs(what), lambda: osdp.Panel().submit_message(0, 0x68, what)):
+            try:
+                call()
+                faults.append(f"{what!r} is taken for bytes")
+            except TypeError as error:
+                tell("of what has no bytes", f"bytes, a bytearray or a memoryview, and not {type(what).__name__}", str(error))
+
+
+def judge_calls():
+    """A call does its work when it is called, whether or not what it gives is looked at: a run is over by a bare `tick`, bytes are heard by a bare `hear`, and an event
+    goes by a bare `expire_events`."""
+    identify, cut = bytes.fromhex("530508000061003F"), bytes.fromhex("5305280000")
+    for does in (lambda device: device.tick(1020), lambda device: device.silence(1001)):
+        with osdp.Device(5) as device:
+            device.hear(cut, 1000)
+            does(device)
+            tell("a run that a bare call has ended", 1, len(device.hear(identify, 1030)))
+    with osdp.Device(5) as device:
+        device.hear(identify, 0)
+        tell("a session that a bare call has begun", False, device.is_closed())
+        device.event("KEYPAD 0 31")
+        device.expire_events(10000, 1)
+        tell("an event that a bare call has let go", 0, device.waiting())
+    with osdp.Panel(check=0, quiet_wait=10) as panel, osdp.Device(5) as device:
+        panel.begin(panel.add(5), 0)
+        panel.hear(device.hear(panel.tick(10), 20)[0].data, 20)
+        panel.reports()
+        tell("a report that a bare call has taken", [], panel.reports())
 
 
 def judge_copies():
@@ -252,6 +307,35 @@ def judge_copies():
             except TypeError as error:
                 tell("of a copy", f"a {type(machine).__name__} is one machine: it can't be copied, and no other process can have it", str(error))
         machine.close()
+
+
+THREADS = """
+import sys, threading
+sys.path.insert(0, {path!r})
+import osdp
+sys.setswitchinterval(1e-6)
+panel, faults = osdp.Panel(capacity=1024), []
+doors = [panel.add(address) for address in range(4)]
+def gives(door, text):
+    for _ in range(400):
+        for _ in range(8):
+            panel.submit(door, text)
+        if panel.waiting(door) != 8:
+            faults.append(f"{{panel.waiting(door)}} wait at {{door}}, and not 8")
+        told = [str(panel.withdraw(door)) for _ in range(9)]
+        if told != [text] * 8 + ["None"]:
+            faults.append(f"of {{door}} come back {{told}}")
+threads = [threading.Thread(target=gives, args=(door, f"OUT {{door}}:5:30")) for door in doors]
+[each.start() for each in threads]
+[each.join() for each in threads]
+print(len(faults), *faults[:3], sep="\\n")
+"""
+
+
+def judge_threads():
+    """In a process of its own, since two calls at once on one machine may end it."""
+    done = subprocess.run([sys.executable, "-B", "-c", THREADS.format(path=str(TOP / "python"))], capture_output=True, text=True, timeout=120)
+    tell("four threads with one panel", (0, "0\n", ""), (done.returncode, done.stdout, done.stderr[-300:]))
 
 
 def judge_rooms():
@@ -267,37 +351,40 @@ def judge_rooms():
 
 
 def judge_between():
-    """Commands that come as fast as they go: a card is told after two of them at the most, where the setting asks for it; else it waits as long as they come. What waits
-    is counted and withdrawn."""
-    for between in (1, 0):
-        settled, cards = 0, 0
-        with osdp.Panel(poll_between_orders=between, capacity=4) as panel, osdp.Device(5) as device:
-            door = panel.add(5)
-            panel.begin(door, 0)
-            device.event("KEYPAD 0 31")
-            for now in range(0, 4000):
-                while panel.waiting(door) < 4:
-                    panel.submit(door, "LSTAT")
-                for answer in device.hear(panel.tick(now), now):
-                    panel.hear(answer.data, now)
-                for report in panel.reports():
-                    settled += report.kind is osdp.Kind.SETTLED
-                    cards += report.kind is osdp.Kind.EVENT
-                    if report.kind is osdp.Kind.EVENT:
-                        tell("commands before the card", True, settled <= 2)
-        tell(f"cards, with {between}", (1, True) if between else (0, True), (cards, settled > (50 if between else 2000)))
-    with osdp.Panel(poll_between_orders=1) as panel:
+    """Commands that come as fast as they go: a card is told after two of them at the most. What waits is counted and withdrawn."""
+    settled, cards = 0, 0
+    with osdp.Panel(capacity=4) as panel, osdp.Device(5) as device:
+        door = panel.add(5)
+        panel.begin(door, 0)
+        device.event("KEYPAD 0 31")
+        for now in range(0, 4000):
+            while panel.waiting(door) < 4:
+                panel.submit(door, "LSTAT")
+            for answer in device.hear(panel.tick(now), now):
+                panel.hear(answer.data, now)
+            for report in panel.reports():
+                settled += report.kind is osdp.Kind.SETTLED
+                cards += report.kind is osdp.Kind.EVENT
+                if report.kind is osdp.Kind.EVENT:
+                    tell("commands before the card", True, settled <= 2)
+    tell("cards, and commands with a POLL 50 ms after each", (1, True), (cards, 50 < settled <= 80))
+    with osdp.Panel() as panel:
         door, texts = panel.add(5), ["LSTAT", "ISTAT", "OSTAT"]
         for text in texts:
             panel.submit(door, text)
         tell("waiting", 3, panel.waiting(door))
         tell("withdrawn in order", texts, [str(panel.withdraw(door)) for _ in texts])
-    refused("a setting of 2", osdp.Status.PANEL_OUT_OF_RANGE, lambda: osdp.Panel(poll_between_orders=2))
 
 
 def judge_device():
     """What a device is told, and what its program says to a command."""
-    with osdp.Panel() as panel, osdp.Device(5, vendor=b"SIM", model=1, version=2, serial=3, firmware=(4, 5, 6), capabilities=bytes([2, 1, 4])) as device:
+    def answers(command):
+        if str(command).startswith("MFG"):
+            device.answer_maker(b"SIM", b"\2")
+        if str(command).startswith("BUZ"):
+            device.answer_refused(3)
+
+    with osdp.Panel() as panel, osdp.Device(5, vendor=b"SIM", model=1, version=2, serial=3, firmware=(4, 5, 6), capabilities=bytes([2, 1, 4]), on_command=answers) as device:
         device.set_inputs(b"\1\0"), device.set_outputs(b"\0\1"), device.set_readers(b"\0"), device.set_local(True, False)
         entry, replies = panel.add(5), []
         for text in ("ID 0", "CAP 0", "LSTAT", "ISTAT", "OSTAT", "RSTAT", "OUT 2:5:1", "MFG 53494D 01", "BUZ 0 2 1 1 1"):
@@ -305,10 +392,6 @@ def judge_device():
         panel.begin(entry, 0)
         for now in range(0, 4000, 50):
             for answer in device.hear(panel.tick(now), now):
-                if answer.order is osdp.Order.PENDING and str(answer.command).startswith("MFG"):
-                    device.answer_maker(b"SIM", b"\2")
-                if answer.order is osdp.Order.PENDING and str(answer.command).startswith("BUZ"):
-                    device.answer_refused(3)
                 panel.hear(answer.data, now)
             replies += [str(each.reply) for each in panel.reports() if each.kind is osdp.Kind.SETTLED]
         device.event("KEYPAD 0 31"), device.event("KEYPAD 0 30")
@@ -364,15 +447,13 @@ def judge_answers():
     """Each answer that a program sets, a COMSET, the defaults of a device, and its `silence` and `set_moment`."""
     asked = {"LSTAT": lambda: device.answer_local(False, True), "RSTAT": lambda: device.answer_list(b"\1\0\1"), "MFG 53494D 01": lambda: device.answer_done()}
     replies, moved = [], []
-    with osdp.Panel(check=0) as panel, osdp.Device(5) as device:
+    with osdp.Panel(check=0) as panel, osdp.Device(5, on_command=lambda command: asked[str(command)]()) as device:
         door = panel.add(5)
         for text in (*asked, "COMSET 7 19200"):
             panel.submit(door, text)
         panel.begin(door, 0)
         for now in range(0, 4000, 10):
             for answer in device.hear(panel.tick(now), now):
-                if answer.order is osdp.Order.PENDING:
-                    asked[str(answer.command)]()
                 moved += [answer.moved] if answer.moved else []
                 panel.hear(answer.data, now)
             replies += [str(each.reply) for each in panel.reports() if each.kind in (osdp.Kind.SETTLED, osdp.Kind.MOVED)]
@@ -392,7 +473,7 @@ def judge_answers():
         busy = [each.said for each in device.hear(identify, 0)]
         device.set_busy(False)
         tell("a device that is busy for a while", ([osdp.Said.BUSY], [osdp.Said.ZERO]), (busy, [each.said for each in device.hear(identify, 1000)]))
-        refused("a device after a sleep", osdp.Status.MOMENT_TOO_FAR, lambda: list(device.tick(10**12)))
+        refused("a device after a sleep", osdp.Status.MOMENT_TOO_FAR, device.tick, 10**12)
         device.set_moment(10**12)
         tell("a packet after a sleep", 1, len(list(device.hear(identify, 10**12))))
 
@@ -461,6 +542,15 @@ def judge_no_library():
     with tempfile.TemporaryDirectory() as folder:  # the library beside the package is taken, but where the variable names another one
         shutil.copytree(TOP / "python/osdp", f"{folder}/osdp", ignore=shutil.ignore_patterns("__pycache__"))
         (Path(folder) / "osdp/libosdp.so.0").symlink_to(os.environ["OSDP_LIBRARY"])
+        for old, new, said in (('VERSION = "0.1.0"', 'VERSION = "0.2.0"', "the library of osdp has the version 0.1.0, and this package 0.2.0"),
+                               ('("kind", c_uint32), ("detail", c_uint32), ("command", MessageStruct)', '("kind", c_uint32), ("detail", c_uint64), ("command", MessageStruct)',
+                                "the library of osdp is of another version than this package: struct osdp_report has 2888 bytes there, and 2896 here")):
+            text = Path(f"{folder}/osdp/_library.py").read_text()
+            changed = re.sub(r"\s+".join(map(re.escape, old.split())), new, text)
+            Path(f"{folder}/osdp/_library.py").write_text(changed)
+            done = subprocess.run([sys.executable, "-B", "-c", "import osdp"], capture_output=True, text=True, env={**os.environ, "PYTHONPATH": folder})
+            tell(f"a library that doesn't fit, {new}", (True, 1, f"ImportError: {said}"), (changed != text, done.returncode, done.stderr.splitlines()[-1]))
+            Path(f"{folder}/osdp/_library.py").write_text(text)
         for named, wanted in (({}, osdp.__version__), ({"OSDP_LIBRARY": "/nowhere/libosdp.so.0"}, "")):
             rest = {name: value for name, value in os.environ.items() if name != "OSDP_LIBRARY"}
             done = subprocess.run([sys.executable, "-B", "-c", "import osdp; print(osdp.library_version())"], capture_output=True, text=True, env={**rest, "PYTHONPATH": folder, **named})
@@ -472,15 +562,17 @@ def judge_door():
     a fault."""
     sys.path[:0] = [str(TOP / "python/examples")]
     import door_device
-    from kept import Kept
+    from place import Kept
     from terminals import Terminal
     sets, stays = termios.tcsetattr, lambda end, when, found: sets(end, when, [*found[:4], termios.B9600, termios.B9600, found[6]])
-    for sets_rate, place in ((sets, (7, "7 19200\n", True)), (stays, (5, None, False))):
+    for sets_rate, place in ((sets, (7, (7, 19200), True)), (stays, (5, None, False))):
         with tempfile.TemporaryDirectory() as folder:
-            terminal, termios.tcsetattr, kept = Terminal(), sets_rate, Path(folder) / "place"
-            door = door_device.Door(terminal.path, 9600, Kept(str(kept)))
+            terminal, termios.tcsetattr, store = Terminal(), sets_rate, {"--keep": f"{folder}/store", "--new": True}
+            kept = Kept(store)
+            door = door_device.Door(terminal.path, 9600, kept)
             door.take([osdp.Answer(osdp.Said.TAKEN, osdp.Order.NONE, None, b"COM", (7, 19200))])
-            found = (door.address, kept.read_text() if kept.exists() else None, bool(select.select([terminal.end], [], [], 0.2)[0]))
+            kept.store.close()
+            found = (door.address, Kept({**store, "--new": False}).place, bool(select.select([terminal.end], [], [], 0.2)[0]))
             tell("a door's address, what it keeps, and whether it answers", place, found)
             tell("a door's device", 5, door.device.address())
             termios.tcsetattr = sets
@@ -491,6 +583,6 @@ if __name__ == "__main__":
     judge_structs(header()), judge_functions(header()), judge_numbers(header()), judge_docs()
     for lost in ([], [41], [46], [30, 61, 66]):
         judge_session(lost)
-    judge_again(), judge_pieces(), judge_refusals(), judge_copies(), judge_rooms(), judge_between(), judge_device(), judge_reports(), judge_answers(), judge_memory(), judge_monitor(), judge_door(), judge_example(), judge_no_library()
+    judge_again(), judge_pieces(), judge_refusals(), judge_calls(), judge_copies(), judge_threads(), judge_rooms(), judge_between(), judge_device(), judge_reports(), judge_answers(), judge_memory(), judge_monitor(), judge_door(), judge_example(), judge_no_library()
     print(f"python: {len(faults)} faults", *faults, sep="\n")
     sys.exit(1 if faults else 0)

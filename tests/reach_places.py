@@ -53,7 +53,7 @@ def of_store(found):
 
 def of_address(found):
     name, at = found.groups()
-    after = ["  %plain = ptrtoint ptr %from to i64", f"  %same = icmp eq i64 %r, %plain", "  %wide = zext i1 %same to i64", "  store i64 %wide, ptr %to, align 1"]
+    after = ["  %plain = ptrtoint ptr %from to i64", "  %same = icmp eq i64 %r, %plain", "  %wide = zext i1 %same to i64", "  store i64 %wide, ptr %to, align 1"]
     return {name: "%r", at: "%from"}, [], after
 
 

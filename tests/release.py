@@ -2,7 +2,7 @@
 """What tests/release.sh looks at by Python: `release.py PROGRAM`.
 
 - The completions for bash and zsh offer, after each command, the options and settings of its help, and no others; and so of osdp-port and osdp-report. Both
-  run in their own shell.
+  run in their own shell. That of osdp-port is what tools/completion makes of its words.
 - `./install` proves crates side by side, each after all that it stands on; it says how far it is, and of one that isn't proved; no other is begun then.
   `rt` is a stand-in for this."""
 import contextlib
@@ -16,6 +16,8 @@ from pathlib import Path
 
 TOP = Path(__file__).resolve().parent.parent
 PROGRAM = sys.argv[1]
+OF_PORT = {"monitor": "all address every live json", "show": "all address", "panel": "all keep new late trace size osdpcap", "reader": "all keep new late trace size osdpcap",
+           "find": "set-address set-rate", "test": "trace may go-on sum tap", "trace": "size osdpcap", "page": "trace demo listen alone"}  # the options of each command, as the manual has them
 COMMANDS = ("show", "monitor", "check", "make", "sim", "panel", "reader", "plan", "test", "help")
 faults = []
 
@@ -69,6 +71,12 @@ def judge_completion(shell):
     text = subprocess.run([TOP / "port/osdp-port", "--help"], capture_output=True, text=True).stdout
     tell(f"{shell}: osdp-port --", set(re.findall(r"(?:^  |, )(--[\w-]+)", text, re.M)), offered("osdp-port", "--"))
     tell(f"{shell}: osdp-port PORT RATE", set(re.findall(r"^  ([a-z]+) ", text, re.M)), offered("osdp-port", "/dev/ttyS9", "9600", ""))
+    for command, options in OF_PORT.items():
+        wanted = {*(f"--{option}" for option in options.split()), "--plain", "--osdp"}
+        tell(f"{shell}: the options of osdp-port {command}", wanted, offered("osdp-port", "/dev/ttyS9", "9600", command, "--"))
+    tell(f"{shell}: osdp-port PORT RATE test", {"device", "panel", "script"}, offered("osdp-port", "/dev/ttyS9", "9600", "test", ""))
+    tell(f"{shell}: osdp-port help", set(OF_PORT), offered("osdp-port", "help", ""))
+    tell(f"{shell}: osdp-port --address", set(), offered("osdp-port", "--address", ""))
     tell(f"{shell}: osdp-port PORT", {"9600", "19200", "38400", "57600", "115200", "230400"}, offered("osdp-port", "/dev/ttyS9", ""))
     text = subprocess.run([TOP / "port/osdp-report", "--help"], capture_output=True, text=True).stdout
     tell(f"{shell}: osdp-report --", set(re.findall(r"^  (--[\w-]+)", text, re.M)), offered("osdp-report", "--"))
@@ -125,5 +133,7 @@ def judge_proving():
 
 if __name__ == "__main__":
     judge_completion("bash"), judge_completion("zsh"), judge_proving()
+    done = subprocess.run([TOP / "tools/completion"], capture_output=True, text=True)
+    tell("the completions are made of the words of osdp-port", (0, ""), (done.returncode, done.stdout + done.stderr))
     print(f"release: {len(faults)} faults", *faults, sep="\n")
     sys.exit(1 if faults else 0)

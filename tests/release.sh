@@ -1,8 +1,9 @@
 #!/usr/bin/env bash
-# Makes the packages of a release, twice, and tries them: in an empty root of Debian's, where the program runs, programs in C are built by pkg-config and by CMake, the
-# package for Python is used, and nothing is left once all is removed; and in an empty folder, where the archive of files alone builds programs in C and Rust. Then
+# Makes the packages of a release, twice, and tries them: lintian finds no error; in an empty root of Debian's they take the place of the two packages of an earlier
+# version, the program runs, programs in C are built by pkg-config and by CMake, one in Rust by the crate, the package for Python is used, each package needs
+# those of its own version, and nothing is left once all is removed; and in an empty folder, where the archive of files alone builds programs in C and Rust. Then
 # what `./install` says, DESTDIR, and the completions (`release.py`). Takes the path of the program; the archive is that which `c.sh` has built. Run as root, it
-# fetches the root by mmdebstrap. It installs that and zsh where they aren't there.
+# fetches the root by mmdebstrap. It installs that, lintian and zsh where they aren't there.
 set -u
 cd "$(dirname "$0")/.." || exit 1
 . tests/passes.bash
@@ -10,14 +11,14 @@ top=$PWD
 root=$work/root
 trap '[ -z "${fetching:-}" ] || wait "$fetching"; rm -rf --one-file-system "$work"' EXIT
 
-for needed in mmdebstrap zsh; do
+for needed in lintian mmdebstrap zsh; do
   command -v "$needed" >/dev/null || { apt-get update -qq && apt-get install -qqy --no-install-recommends "$needed"; } >"$work/installed" 2>&1 || cat "$work/installed"
 done
 
 # ---- an empty root, fetched while the packages are made
 
 fetch_root() {
-  mmdebstrap --quiet --variant=minbase --include=gcc,libc6-dev,cmake,make,pkgconf,python3-minimal,python3-serial bookworm "$root"
+  mmdebstrap --quiet --variant=minbase --include=gcc,libc6-dev,cmake,make,pkgconf,python3-minimal,python3-serial,python3-aiohttp bookworm "$root"
 }
 fetch_root >"$work/fetched" 2>&1 &
 fetching=$!
@@ -28,7 +29,7 @@ passes ./install --pack "$work/one" --trial
 (cd / && umask 077 && TZ=Asia/Tokyo passes "$top/install" --pack "$work/two" --trial) || failed=1
 diff -r "$work/one" "$work/two" || fail 'two runs give other bytes'
 (cd "$work/one" && passes sha256sum --quiet -c SHA256SUMS) || failed=1
-[ "$(ls "$work/one" | wc -l)" -eq 5 ] || fail "other packages: $(ls "$work/one")"
+[ "$(ls "$work/one" | wc -l)" -eq 9 ] || fail "other packages: $(ls "$work/one")"
 grep -qxF "commit: $(git rev-parse HEAD)" "$work/one/RELEASE" || fail 'RELEASE names another commit'
 grep -q '^kit: rattle-kit-[^ ]* logic [0-9a-f]*$' "$work/one/RELEASE" || fail 'RELEASE names no kit'
 grep -q '^gate: .' "$work/one/RELEASE" || fail 'RELEASE has no line of a gate'
@@ -37,6 +38,8 @@ for package in "$work"/one/*.deb; do
   passes dpkg-deb --info "$package"
   dpkg-deb --contents "$package" | awk '$2 != "root/root" { print "other owner: " $0; bad = 1 } END { exit bad }' || fail "$package has files of another owner"
 done
+
+lintian --allow-root --fail-on error "$work"/one/*.deb >"$work/said" 2>&1 || { cat "$work/said"; fail 'lintian finds an error'; }
 
 # of a commit that a gate has passed there are packages; of one that has not, that is another or has changed since, there are none
 clone=$work/clone
@@ -77,6 +80,15 @@ rm -r "$work/crate/osdp-0.1.0/lib"
 (unset OSDP_C_LIB_DIR && cd "$work/crate/osdp-0.1.0" && export PKG_CONFIG_PATH=$there/lib/pkgconfig && passes cargo run --quiet --locked --example session) ||
   fail 'the crate does not find the library by pkg-config'
 
+# the crate of the Debian package, where Cargo looks for those of a system
+mkdir "$work/system" && for package in libosdp0 libosdp-dev librust-osdp-dev; do dpkg-deb --extract "$work/one/${package}"_*.deb "$work/system"; done
+(
+  unset OSDP_C_LIB_DIR && cd "$work" && passes cargo new --quiet --vcs none uses && cd uses && mkdir .cargo || exit 1
+  printf '[source.crates-io]\nreplace-with = "system"\n[source.system]\ndirectory = "%s"\n' "$work/system/usr/share/cargo/registry" >.cargo/config.toml
+  echo 'osdp = "0.1"' >>Cargo.toml && cp "$crate/examples/session.rs" src/main.rs
+  PKG_CONFIG_PATH=$work/system/usr/lib/pkgconfig passes cargo run --quiet
+) || fail 'a program in Rust does not find the crate of the Debian package'
+
 # ---- DESTDIR, and what `./install` says
 
 DESTDIR=$work/destination passes ./install --proved --prefix /usr
@@ -101,17 +113,33 @@ find_package(osdp 0.1 REQUIRED)
 add_executable(installed installed.c)
 target_link_libraries(installed osdp::osdp)
 END
+# an earlier version had two packages: one for the program, and one with all that makers' programs need
+passes python3 tests/earlier_packages.py "$work/one" "$root/tmp/earlier"
+inside sh -c 'dpkg -i /tmp/earlier/*.deb'
+[ "$(chroot "$root" dpkg-query -W -f '${Version} ' osdp osdp-dev)" = '0.0.9 0.0.9 ' ] || fail 'the packages of an earlier version are not installed'
 inside sh -c 'dpkg -i /tmp/made/*.deb'
+[ "$(chroot "$root" dpkg-query -W -f '${db:Status-Abbrev}' osdp-dev)" != 'ii ' ] || fail 'the package that the new ones take over is still there'
 inside sh -c '[ "$(osdp --version)" = "osdp 0.1.0" ] && [ "$(osdp-port --version)" = "osdp-port 0.1.0" ]'
+inside sh -c 'cd / && python3 -c "import sys; sys.path.insert(0, \"/usr/share/osdp/port\"); import osdp_port.page.start, osdp_port.page.server"'
 inside sh -c 'cd /tmp/made && cc -o plain installed.c $(pkg-config --cflags --libs osdp) && [ "$(./plain)" = "0.1.0 53050900046100C125" ]'
 inside sh -c 'cd /tmp/made && cmake -B build . && cmake --build build && [ "$(build/installed)" = "0.1.0 53050900046100C125" ]'
 inside sh -c 'python3 /usr/share/osdp/python/examples/session.py | grep -qx "done: OUT 0:5:30"'
+inside sh -c 'cd / && PYTHONPATH=/usr/share/osdp/port python3 -B -c "import osdp_port.page.start, osdp_port.page.server"'
 inside sh -c 'cd / && python3 -c "import osdp; print(osdp.library_version())" | grep -qx 0.1.0'
 inside sh -c 'sed -i "s/osdp 0.1 /osdp 0.2 /" /tmp/made/CMakeLists.txt && ! cmake -B /tmp/other /tmp/made'
 cmp -s "$root/usr/share/doc/osdp/RELEASE" "$work/one/RELEASE" || fail 'the package has another RELEASE'
 grep -q 'No licence has been chosen yet' "$root/usr/share/doc/osdp/copyright" || fail 'the package does not say what may be done with it'
-inside dpkg --verify osdp osdp-dev
-inside dpkg --purge osdp-dev osdp
+packages="osdp osdp-page libosdp0 libosdp-dev python3-osdp librust-osdp-dev"
+inside dpkg --verify $packages
+inside sh -c 'ldconfig -p | grep -q "libosdp.so.0 "'
+# each goes with those of its own version: the library isn't removed from under the others, nor do they go with an earlier one
+for alone in libosdp0 libosdp-dev; do
+  chroot "$root" dpkg --remove "$alone" >"$work/said" 2>&1 && { cat "$work/said"; fail "$alone is removed from under what needs it"; }
+done
+inside dpkg --remove $packages
+everything >"$work/removed"
+diff "$work/before" "$work/removed" || fail 'something is left once the packages are removed'
+inside dpkg --purge osdp-dev $packages
 everything >"$work/after"
 diff "$work/before" "$work/after" || fail 'something is left once the packages are removed'
 

@@ -1,6 +1,7 @@
 """The short examples in Python, by what a user sees: bytes that another program takes, a second program, a port that fails, bad words, and orders.
 Takes the path of the program."""
 import os
+import resource
 import signal
 import subprocess
 import sys
@@ -10,6 +11,7 @@ import time
 from pathlib import Path
 
 import port_line
+import stores
 from port_line import ACK, COM, COMSET, ID, NAK, OUT, PANEL, PDID, Device, asks, faults, has, opened, tells
 from terminals import Script, Terminal, commands, packet
 
@@ -65,15 +67,15 @@ def second_program(words):
 
 
 def ends_of_orders(panel_words):
-    """A port that fails, and Ctrl-C: each order that was taken has an end."""
-    for what in ("the port hangs up", "Ctrl-C"):
+    """A port that fails, Ctrl-C, and a terminal that is closed: each order that was taken has an end."""
+    for what in ("the port hangs up", "Ctrl-C", "SIGHUP"):
         terminal = Terminal()
         device, panel = Device(terminal, is_silent=lambda burst: burst[5] == OUT), started(panel_words, terminal, ["5"], *PANEL, stderr=subprocess.PIPE)
         device.until([panel], opened(panel, 1))
         panel.say("1 OUT 0:2:1\n1 OUT 0:2:2")
         asks(device.until([panel], lambda: any(burst[5] == OUT for burst in device.asked)), f"{what}: the order doesn't go out")
-        if what == "Ctrl-C":
-            panel.process.send_signal(signal.SIGINT)
+        if what != "the port hangs up":
+            panel.process.send_signal(signal.SIGINT if what == "Ctrl-C" else signal.SIGHUP)
         else:
             os.close(terminal.end)
         panel.process.wait(timeout=60)
@@ -164,15 +166,20 @@ def kept_place(reader_words):
     with tempfile.TemporaryDirectory() as folder:
         kept = Path(folder) / "place"
         moved = bytes([7]) + (19200).to_bytes(4, "little")
-        for option, text in ((kept, "7 19200\n"), (Path(folder) / "none/place", None)):
+        for option, text in ((kept, "7 at 7 19200\n"), (Path(folder) / "full", "")):
             terminal = Terminal()
-            reader = Script(*example, "--keep", option, terminal.path, 9600, *program, "address", 5)
+            reader = Script(*example, "--keep", option, "--new", terminal.path, 9600, *program, "address", 5,
+                            preexec_fn=lambda: signal.signal(signal.SIGXFSZ, signal.SIG_IGN))
             asks(asked(terminal, 5, 0, ID, b"\0") == bytes([PDID]), "kept: ID isn't answered")
-            asks(not option.exists(), "kept: a place was written before the reader has moved")
+            asks(stores.text(option) == "", "kept: a place was written before the reader has moved")
+            if not text:  # the disk is full from now on
+                resource.prlimit(reader.process.pid, resource.RLIMIT_FSIZE, (0, 0))
             asks(asked(terminal, 5, 1, COMSET, moved) == bytes([COM]), "kept: the COMSET isn't answered")
-            asks((option.read_text() if option.exists() else None) == text, "kept: another place is kept as the COM goes out")
-            asks(until(reader, has(reader, "moved 7 19200")) and ("not kept 7 19200" in reader.lines) == (text is None), f"kept: the reader tells {reader.lines}")
+            asks(stores.text(option) == text, "kept: another place is kept as the COM goes out")
+            asks(until(reader, has(reader, "moved 7 19200")) and any(line.startswith(f"not kept 7 19200: the store {option} can't be written: ") for line in reader.lines) == (not text),
+                 f"kept: the reader tells {reader.lines}")
             reader.process.kill()
+            reader.process.wait()
             terminal.close()
         terminal = Terminal()
         again = Script(*example, "--keep", kept, terminal.path, 9600, *program, "address", 5)
@@ -181,10 +188,14 @@ def kept_place(reader_words):
         asks(terminal.rate == termios.B19200, "kept: the reader that starts again has another rate")
         asks(not asked(terminal, 5, 0, ID, b"\0"), "kept: the reader is at its first address too")
         again.process.kill()
-        for text in ("", "7\n", "7 x\n", "7 9600 1\n"):
-            kept.write_text(text)
+        again.process.wait()
+        for text, why in (("", "has 0 bytes, and is no store"), ("7 19200\n", "is no store of osdp"), (None, "there is no store at")):
+            for end in ("", "-wal", "-shm"):
+                Path(f"{kept}{end}").unlink(missing_ok=True)
+            if text is not None:
+                kept.write_text(text)
             script = Script(*example, "--keep", kept, terminal.path, 9600, *program, stderr=subprocess.PIPE)
-            ended(script, 3, f"the kept place can't be read: {kept}", f"kept: a file with {text!r}")
+            ended(script, 3, why, f"kept: a file with {text!r}")
         terminal.close()
 
 
@@ -199,10 +210,10 @@ def refused_rate(reader_words):
     with tempfile.TemporaryDirectory() as folder:
         Path(folder, "sitecustomize.py").write_text(PINNED)
         terminal, kept, streams = Terminal(), Path(folder) / "place", {"env": {**os.environ, "PYTHONPATH": folder}}
-        reader = Script(*example, "--keep", kept, terminal.path, 9600, *program, "address", 5, **streams)
+        reader = Script(*example, "--keep", kept, "--new", terminal.path, 9600, *program, "address", 5, **streams)
         asks(asked(terminal, 5, 0, ID, b"\0") == bytes([PDID]), "refused rate: ID isn't answered")
         asks(not asked(terminal, 5, 1, COMSET, bytes([7]) + (19200).to_bytes(4, "little")), "refused rate: the COMSET is answered")
-        asks(until(reader, has(reader, "no rate 19200")) and not kept.exists(), f"refused rate: {kept.exists()}, {reader.lines}")
+        asks(until(reader, has(reader, "no rate 19200")) and stores.text(kept) == "", f"refused rate: {stores.text(kept)}, {reader.lines}")
         asks(asked(terminal, 5, 2, 0x60) == bytes([NAK]), "refused rate: the session hasn't ended")
         asks(asked(terminal, 5, 0, ID, b"\0") == bytes([PDID]), "refused rate: the reader isn't where it was")
         reader.process.kill()
@@ -243,7 +254,7 @@ def main(osdp):
         name = example[0][-1]
         shown = subprocess.run([*map(str, example[0]), "--help"], capture_output=True, text=True)
         asks(shown.returncode == 0 and "Status: 2 bad words" in shown.stdout and not shown.stderr, f"{name}: --help is another text")
-    for name in ("panel", "reader", "port", "lines", "outputs", "kept"):
+    for name in ("panel", "reader", "port", "lines", "outputs", "place"):
         length = len((TOP / f"examples/{name}.py").read_text().splitlines())
         asks(length < 100, f"examples/{name}.py has {length} lines: it is to stay a short one")
     print(f"short examples: {len(faults)} faults in {time.monotonic() - begun:.1f} s", *faults, sep="\n")

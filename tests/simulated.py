@@ -9,8 +9,10 @@ TOP = Path(__file__).resolve().parent.parent
 sys.path.insert(0, str(TOP / "port"))
 sys.dont_write_bytecode = True
 
+from osdp_port.faults import Stop  # noqa: E402
 from osdp_port.keep import PanelPlaces, ReaderPlace  # noqa: E402
-from osdp_port.panel import Panel, first_rate, new_devices  # noqa: E402
+from osdp_port.devices import first_rate, new_devices  # noqa: E402
+from osdp_port.panel import Panel  # noqa: E402
 from osdp_port.program import Lines  # noqa: E402
 from osdp_port.reader import Reader  # noqa: E402
 from osdp_port.serial_port import has_rate  # noqa: E402
@@ -54,14 +56,21 @@ class Line:
         return self.now
 
     def add_panel(self, names, rate=9600, keep=None):
-        kept = PanelPlaces(str(keep)) if keep else None
-        devices = new_devices(names, rate, kept)
+        kept = PanelPlaces(str(keep), is_new=not Path(keep).exists()) if keep else None
+        try:
+            devices = new_devices(names, rate, kept)
+        except Stop:  # the program ends, and its store is free again
+            if kept and kept.store:
+                kept.close()
+            raise
         self.panel = Panel(Port(self, first_rate(devices, rate)), Lines(self.osdp, ["panel", *self.settings]), devices, self.clock, self.told.append, kept)
 
     def add_reader(self, address, rate=9600, serial=0, words=(), keep=None):
-        kept = ReaderPlace(str(keep)) if keep else None
+        kept = ReaderPlace(str(keep), not Path(keep).exists()) if keep else None
         place = kept.read() if kept else None
         address, rate = (place.address, place.rate) if place else (address, rate)
+        if kept:
+            kept.begins(address, rate)
         name, told = f"{address}.{len(self.readers)}", []
         self.acted[name] = told
         starts = lambda at: Lines(self.osdp, ["reader", "address", str(at), "serial", str(serial), *words])
@@ -112,14 +121,20 @@ class Line:
         """The panel is killed: what it knew is gone, but for its file."""
         self.panel.program.process.kill()
         self.panel.program.close()
+        if self.panel.kept:
+            self.panel.kept.close()
         self.panel = None
 
     def stop_reader(self, name):
         reader = self.readers.pop(name)
         reader.program.process.kill()
         reader.program.close()
+        if reader.kept:
+            reader.kept.close()
 
     def close(self):
         for end in [self.panel, *self.readers.values()]:
             if end:
                 end.program.close()
+            if end and end.kept:
+                end.kept.close()

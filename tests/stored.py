@@ -1,21 +1,23 @@
 #!/usr/bin/env python3
-"""Ends a panel that stores its orders and reports at random moments by SIGKILL, starts it again each time, and reads its journal at last. Takes a seed and the
-program, `examples/c/stored_panel`; without it that is `python/examples/stored_panel.py`. OSDP_LIBRARY names the library.
+"""Ends a panel that stores its orders and reports at random moments by SIGKILL, starts it again each time, and reads its store at last. Takes a seed, the program
+`stored_panel` in C or in Rust, and which of both it is; without these it is `python/examples/stored_panel.py`. OSDP_LIBRARY names the library. `store.py` ends it at each write.
 
 The device is the package's own, over a pseudo terminal. It does each order at once, and writes down which. One packet in ten is lost, there and back. Cards are shown
 to it meanwhile. At last the panel isn't ended any more, until each order has an end and each card is told. Then:
 
 - The device has acted on no order twice, on each that is settled and on none that was taken back or refused, and in the order in which they were given.
 - Each order has one end, and those that are in doubt were acted on once or never.
-- Each card was told, in the order in which they were shown, and the door was ordered once at most for each that may enter, and not at all only where the panel was
-  ended between a card and its order.
+- Each card was told, in the order in which they were shown, and the door was ordered once for each that may enter.
 - The numbers of the orders go on from each start to the next.
 
 A POLL that is answered by a code which nobody can read ends no order and no session; an order that is answered so is in doubt, and the device is asked for its state
-at once. A journal that is cut within its last line is read as if that line was never written, another one isn't read, and a second program may not write it."""
+at once. What is in doubt is told again at each start, until the device's state was told. A file that is no store isn't read, and a second program may not have the same one.
+
+Of the program in C: a line of spaces is refused; and where the disk is slow (`slow.c`) a card opens no door late, and where the panel was stopped no order of before goes out."""
 import os
 import random
 import select
+import signal
 import subprocess
 import sys
 import tempfile
@@ -28,6 +30,7 @@ sys.path.insert(0, str(TOP / "python"))
 sys.dont_write_bytecode = True
 
 import osdp  # noqa: E402
+import stores  # noqa: E402
 from terminals import Script, Terminal  # noqa: E402
 
 ENDS, MOST, LIMIT = 12, 60, 60.0  # the panel is ended so often at least, and at most; seconds after which what is waited for has failed to come
@@ -35,6 +38,7 @@ SETTLED, DOUBTED = 40, 6  # so many orders are wanted at least
 OUT, POLL, UNKNOWN = 0x68, 0x60, 0x99  # a command, another, and a code that no reply has
 MAY_ENTER = ("12345640", "65432180")
 program = [sys.executable, "-B", TOP / "python/examples/stored_panel.py"]
+language = "Python"
 faults = []
 
 
@@ -43,11 +47,16 @@ def asks(holds, what):
         faults.append(what)
 
 
+def words_for(store, port, *options):
+    """The words of the program. A store that isn't there is made."""
+    return [*program, *options, *([] if store.exists() else ["--new"]), store, port, "9600"]
+
+
 class World:
     """The line, the device at its end, and the panel's program, which is ended and started again."""
 
-    def __init__(self, chance, journal):
-        self.chance, self.journal = chance, journal
+    def __init__(self, chance, store):
+        self.chance, self.store = chance, store
         self.end, self.other = os.openpty()  # the other end stays open, so that the line does
         tty.setraw(self.other)
         self.device, self.acted, self.shown = osdp.Device(5, serial=1), [], []
@@ -56,7 +65,7 @@ class World:
 
     def start(self):
         self.is_heard = False
-        self.process = subprocess.Popen([*program, self.journal, os.ttyname(self.other), "9600"], stdin=subprocess.PIPE, stdout=subprocess.DEVNULL)
+        self.process = subprocess.Popen(words_for(self.store, os.ttyname(self.other)), stdin=subprocess.PIPE, stdout=subprocess.DEVNULL)
 
     def kill(self):
         self.process.kill()
@@ -104,17 +113,16 @@ class World:
                 next_card = now + self.chance.uniform(0.05, 0.6)
 
 
-def entries(journal):
-    return [line.split(" ", 2) for line in journal.read_text().splitlines()]
+def rows(store, statement):
+    return stores.rows(store, statement) if store.exists() else []
 
 
 def judge(world):
-    """What the journal says, beside what the device did and was shown."""
-    lines = entries(world.journal)
-    orders = {int(words[1]): words[2] for words in lines if words[0] == "order"}
-    ends = [(int(words[1]), words[2]) for words in lines if words[0] == "end"]
+    """What the store says, beside what the device did and was shown."""
+    orders = dict(rows(world.store, "SELECT number, text FROM orders ORDER BY number"))
+    ends = [(number, f"{state} {answer or ''}".strip()) for number, state, answer in rows(world.store, "SELECT number, state, answer FROM orders WHERE state <> 'open'")]
     asks(list(orders) == list(range(1, len(orders) + 1)), "the numbers of the orders don't go on")
-    asks(sorted(which for which, _ in ends) == list(orders), "an order has no end, or two")
+    asks(sorted(which for which, _ in ends) == list(orders), "an order has no end")
     by_time = [text for text in world.acted if text.startswith("OUT 1:")]
     asks(len(by_time) == len(set(by_time)) and by_time == sorted(by_time, key=lambda text: int(text.split(":")[2])), "an order was acted on twice, or out of turn")
     asks(set(world.acted) <= set(orders.values()), "an order was acted on that wasn't stored")
@@ -125,26 +133,26 @@ def judge(world):
             asks(times in wanted and (how in ("settled ACK", "doubt", "back") or how.startswith("refused ")), f"{orders[which]} {how} was acted on {times} times")
     strikes = [which for which, text in orders.items() if text == "OUT 0:5:30"]
     may = sum(card in MAY_ENTER for card in world.shown)
-    asks(may - world.ended <= len(strikes) <= may, f"{len(strikes)} orders for {may} cards that may enter")  # none where the panel was ended between both lines
+    asks(len(strikes) == may, f"{len(strikes)} orders for {may} cards that may enter")
     asks(world.acted.count("OUT 0:5:30") <= len(strikes), "the door was opened more often than it was ordered")
-    told = [" ".join(words[1:]).split(" ")[-1] for words in lines if words[0] == "event"]
+    told = [text.split(" ")[-1] for text, in rows(world.store, "SELECT text FROM events ORDER BY number")]
     once = [card for at, card in enumerate(told) if told[at - 1:at] != [card]]
     asks(once == world.shown, f"the cards told are others than those shown: {len(once)} for {len(world.shown)}")
     return orders, ends, told
 
 
-def ends_of(journal, how):
-    return sum(words[0] == "end" and words[2].startswith(how) for words in entries(journal))
+def ends_of(store, how):
+    return rows(store, f"SELECT count(*) FROM orders WHERE state = '{how}'")[0][0] if store.exists() else 0
 
 
-def is_enough(journal):
+def is_enough(store):
     """Whether enough has happened."""
-    return ends_of(journal, "settled") >= SETTLED and ends_of(journal, "doubt") >= DOUBTED
+    return ends_of(store, "settled") >= SETTLED and ends_of(store, "doubt") >= DOUBTED
 
 
 def many_ends(chance, folder):
-    world = World(chance, Path(folder) / "journal")
-    while world.ended < MOST and (world.ended < ENDS or not is_enough(world.journal)):
+    world = World(chance, Path(folder) / "store")
+    while world.ended < MOST and (world.ended < ENDS or not is_enough(world.store)):
         world.start()
         limit = time.monotonic() + LIMIT
         while not world.is_heard and time.monotonic() < limit:  # until the panel is there
@@ -156,15 +164,14 @@ def many_ends(chance, folder):
     limit = time.monotonic() + LIMIT
     while time.monotonic() < limit:
         world.runs(0.5, busy=False)
-        lines = entries(world.journal)
-        if sum(words[0] == "order" for words in lines) == sum(words[0] == "end" for words in lines) and not world.device.waiting():
+        if not ends_of(world.store, "open") and not world.device.waiting():
             break
     world.kill()
     asks(not world.device.waiting(), "cards still wait")
     orders, all_ends, told = judge(world)
-    kinds = {kind: ends_of(world.journal, kind) for kind in sorted({how.split(" ")[0] for _, how in all_ends})}
-    asks(is_enough(world.journal), f"too little has happened: {kinds}")
-    print(f"stored, {Path(program[-1]).name}: {len(orders)} orders {kinds}, {len(world.acted)} acted on, {len(world.shown)} cards, {len(told)} told, ended {world.ended} times")
+    kinds = {kind: ends_of(world.store, kind) for kind in sorted({how.split(" ")[0] for _, how in all_ends})}
+    asks(is_enough(world.store), f"too little has happened: {kinds}")
+    print(f"stored, {language}: {len(orders)} orders {kinds}, {len(world.acted)} acted on, {len(world.shown)} cards, {len(told)} told, ended {world.ended} times")
 
 
 def with_code(burst, code):
@@ -180,14 +187,14 @@ def with_code(burst, code):
 class Spoiled:
     """A line without losses. The answer to the next command of one kind gets a code that nobody can read."""
 
-    def __init__(self, journal):
-        self.terminal, self.device, self.acted, self.polls = Terminal(), osdp.Device(5, serial=1), [], 0
+    def __init__(self, store, *options, answers=True, **streams):
+        self.terminal, self.device, self.acted, self.polls, self.answers = Terminal(), osdp.Device(5, serial=1), [], 0, answers
         self.device.set_outputs(bytes(2))
         self.spoils = None
-        self.panel = Script(*program, journal, self.terminal.path, "9600")
+        self.panel = Script(*words_for(store, self.terminal.path, *options), **streams)
 
     def turn(self):
-        for burst in self.terminal.bursts() if select.select([self.terminal.end], [], [], 0.01)[0] else ():
+        for burst in self.terminal.bursts() if self.answers and select.select([self.terminal.end], [], [], 0.01)[0] else ():
             for each in self.device.hear(burst, int(time.monotonic() * 1000)):
                 if each.order is osdp.Order.ONCE and each.command.code == OUT:
                     self.acted.append(str(each.command))
@@ -204,18 +211,23 @@ class Spoiled:
             self.turn()
         return holds()
 
-    def has(self, line):
-        return lambda: line in self.panel.lines
+    def has(self, *lines):
+        return lambda: all(line in self.panel.lines for line in lines)
+
+    def end(self):
+        self.panel.process.kill()
+        self.panel.process.wait()
+        self.terminal.close()
 
 
 def unread(folder):
     """A POLL, and then an order, are answered by a code that nobody can read."""
-    journal = Path(folder) / "unread"
-    line = Spoiled(journal)
+    store = Path(folder) / "unread"
+    line = Spoiled(store)
     asks(line.until(lambda: line.polls > 2), "unread: the device isn't polled")
     line.spoils = POLL
     asks(line.until(line.has(f"unread code {UNKNOWN:02X}")), f"unread: that of a POLL isn't told: {line.panel.lines}")
-    asks(journal.read_text() == "", f"unread: by that of a POLL the journal has {journal.read_text()!r}")
+    asks(not rows(store, "SELECT text FROM orders UNION SELECT text FROM events"), "unread: by that of a POLL the store has an order, or an event")
     line.panel.say("OUT 1:5:7")
     asks(line.until(line.has("settled ACK 1 OUT 1:5:7")), f"unread: after it no order is settled: {line.panel.lines}")
     line.device.event(f"RAW 0 0 26 {MAY_ENTER[0]}")
@@ -226,38 +238,115 @@ def unread(folder):
     asks(line.until(line.has("state OSTATR 0000")), f"unread: after it the device isn't asked for its state: {line.panel.lines}")
     asks(sum(each.startswith("opened") for each in line.panel.lines) == 1, f"unread: the session has ended: {line.panel.lines}")
     asks(line.acted == ["OUT 1:5:7", "OUT 0:5:30", "OUT 1:5:8"], f"unread: the device has acted on {line.acted}")
-    line.panel.process.kill()
-    line.panel.process.wait()
-    line.terminal.close()
+    line.end()
 
 
-def journals(folder):
-    """What is read of a journal, and which isn't."""
-    _, other = os.openpty()
-    path = Path(folder) / "cut"
-    path.write_text("order 1 OUT 1:5:1\nevent RAW 0 0 26 12345640\nend 1 settled ACK\norder 2 OUT 1:5:2\nend 2 sett")
-    words = [*program, path, os.ttyname(other), "9600"]
-    process = subprocess.Popen(words, stdin=subprocess.PIPE, stdout=subprocess.PIPE, text=True)
-    asks(process.stdout.readline() == "doubt 2 OUT 1:5:2\n", "a line that is cut counts")
-    second = subprocess.run([*program, path, os.ttyname(os.openpty()[1]), "9600"], stdin=subprocess.DEVNULL, capture_output=True, text=True, check=False)
-    asks((second.returncode, second.stderr) == (3, f"another program writes the journal: {path}\n"), f"a second program writes the journal: {second}")
+def with_order(store):
+    """A store with an order that has no end."""
+    stores.write(store, "5 at 5 9600 is 000000 0 1")
+    base = stores.store.sqlite3.connect(store)
+    base.execute("INSERT INTO orders (device, number, text, until) VALUES (5, 1, 'OUT 1:5:1', 0)")
+    base.commit()
+    base.close()
+
+
+def refused_stores(folder):
+    """Which stores aren't read."""
+    path, port = Path(folder) / "refused", os.ttyname(os.openpty()[1])
+    with_order(path)
+    process = subprocess.Popen(words_for(path, port), stdin=subprocess.PIPE, stdout=subprocess.PIPE, text=True)
+    asks(process.stdout.readline() == "doubt 1 OUT 1:5:1\n", "what is in doubt isn't told")
+    for named, is_new, why in ((path, False, "another program has the store"), (path, True, "there is a store already: "), (Path(folder) / "none", False, "there is no store at "),
+                               (Path("/etc/passwd"), False, "is no store of osdp. Bring back")):
+        words = [*program, *(["--new"] if is_new else []), named, os.ttyname(os.openpty()[1]), "9600"]
+        done = subprocess.run(words, stdin=subprocess.DEVNULL, capture_output=True, text=True, check=False)
+        asks(done.returncode == (1 if language == "Rust" else 3) and why in done.stderr and str(named) in done.stderr, f"a store: {words} ends with {done}")
     process.kill()
     process.wait()
-    asks(path.read_text().endswith("order 2 OUT 1:5:2\nend 2 doubt\n"), "what is in doubt isn't stored")
-    path.write_text("order 1 OUT 1:5:1\nnonsense\n")
-    bad = subprocess.run(words, stdin=subprocess.DEVNULL, capture_output=True, text=True, check=False)
-    asks((bad.returncode, bad.stderr) == (3, f"the journal can't be read: {path}\n"), f"a bad journal is read: {bad}")
 
 
-def main(seed=1, path=None):
-    global program
-    program = [path] if path else program
+def odd_lines(folder):
+    """A line of spaces is no order, and neither is an OSTAT after spaces, or a COMSET without a place: none is written."""
+    store = Path(folder) / "odd"
+    line = Spoiled(store)
+    asks(line.until(lambda: line.polls > 2), "odd: the device isn't polled")
+    for text in (" ", "  COMSET 7", " OSTAT", "", "OSTAT ", "COMSET 7 9600 1"):
+        line.panel.say(text)
+    asks(line.until(lambda: line.panel.lines.count("refused line") == 6), f"odd: not all lines are refused: {line.panel.lines}")
+    line.panel.say("  OUT 1:5:7")
+    asks(line.until(line.has("settled ACK 1 OUT 1:5:7")), f"odd: an order after spaces isn't taken: {line.panel.lines}")
+    asks(rows(store, "SELECT number, text, state, answer FROM orders") == [(1, "OUT 1:5:7", "settled", "ACK")], "odd: the store has another order")
+    asks(store.stat().st_mode & 0o777 == 0o600, "odd: others may read the store")
+    line.end()
+
+
+def told_again(folder):
+    """What is in doubt is told at each start, until the device's state was told: a loss of power in between hides nothing."""
+    store, states = Path(folder) / "again", "SELECT state FROM orders"
+    with_order(store)
+    for _ in range(2):
+        line = Spoiled(store, answers=False)
+        asks(line.until(line.has("doubt 1 OUT 1:5:1")), f"again: it isn't told: {line.panel.lines}")
+        asks(rows(store, states) == [("open",)], f"again: before the device was asked the store has {rows(store, states)}")
+        line.end()
+    line = Spoiled(store)
+    asks(line.until(line.has("doubt 1 OUT 1:5:1", "state OSTATR 0000")), f"again: it isn't asked: {line.panel.lines}")
+    asks(line.until(lambda: rows(store, states) == [("doubt",)]), f"again: after the state the store has {rows(store, states)}")
+    line.end()
+
+
+def slow_disk(folder):
+    """Where the disk takes long a card opens no door late: its order isn't written, and is in doubt. Later, and where the disk is fast enough, it opens."""
+    slow = Path(folder) / "slow.so"
+    subprocess.run([os.environ.get("CC", "cc"), "-O1", "-shared", "-fPIC", "-o", slow, TOP / "tests/slow.c"], check=True)
+    flag = Path(folder) / "is_slow"
+    line = Spoiled(Path(folder) / "slow", "--late", "800", env={**os.environ, "LD_PRELOAD": str(slow), "SLOW_SYNC": "1200", "SLOW_WHERE": str(flag)})
+    asks(line.until(lambda: line.polls > 2), "slow: the device isn't polled")
+    line.device.event(f"RAW 0 0 26 {MAY_ENTER[0]}")
+    asks(line.until(line.has("settled ACK 1 OUT 0:5:30")), f"slow: a fast disk opens no door: {line.panel.lines}")
+    flag.write_text("")
+    line.device.event(f"RAW 0 0 26 {MAY_ENTER[1]}")
+    asks(line.until(line.has("order 2 OUT 0:5:30")), f"slow: the card makes no order: {line.panel.lines}")
+    flag.unlink()
+    asks(line.until(line.has("doubt 2 OUT 0:5:30", "state OSTATR 0000")), f"slow: the order isn't in doubt: {line.panel.lines}")
+    asks(line.acted == ["OUT 0:5:30"], f"slow: the device has acted on {line.acted}")
+    line.device.event(f"RAW 0 0 26 {MAY_ENTER[0]}")
+    asks(line.until(line.has("settled ACK 3 OUT 0:5:30")), f"slow: after it no card opens the door: {line.panel.lines}")
+    line.end()
+
+
+def stopped(folder):
+    """An order that was under way as the panel was stopped isn't sent again, and one that was given meanwhile is refused, and not written."""
+    store = Path(folder) / "stopped"
+    line = Spoiled(store, "--late", "800")
+    asks(line.until(lambda: line.polls > 2), "stopped: the device isn't polled")
+    line.answers = False
+    line.panel.say("OUT 1:5:7")
+    asks(line.until(line.has("order 1 OUT 1:5:7")), f"stopped: the order isn't taken: {line.panel.lines}")
+    line.panel.process.send_signal(signal.SIGSTOP)
+    line.panel.say("OUT 1:5:8")
+    time.sleep(1.8)
+    if select.select([line.terminal.end], [], [], 0)[0]:
+        list(line.terminal.bursts())  # the device hasn't heard these
+    line.panel.process.send_signal(signal.SIGCONT)
+    line.answers = True
+    asks(line.until(line.has("too old OUT 1:5:8", "doubt 1 OUT 1:5:7", "state OSTATR 0000")), f"stopped: told is {line.panel.lines}")
+    asks(line.acted == [] and rows(store, "SELECT text FROM orders") == [("OUT 1:5:7",)], f"stopped: the device has acted on {line.acted}")
+    line.end()
+
+
+def main(seed=1, path=None, which="Python"):
+    global program, language
+    program, language = [path] if path else program, which
     with tempfile.TemporaryDirectory() as folder:
         many_ends(random.Random(int(seed)), folder)
         unread(folder)
-        journals(folder)
+        refused_stores(folder)
+        told_again(folder)
+        for case in (odd_lines, slow_disk, stopped) if language == "C" else ():
+            case(folder)
     for fault in faults:
-        print(f"stored: {fault}")
+        print(f"stored, {language}: {fault}")
     sys.exit(bool(faults))
 
 

@@ -83,6 +83,17 @@ def packet(address, number, code, data=b""):
     return whole + bytes([-sum(whole) % 256])
 
 
+def crc_packet(address, number, code, data=b""):
+    """A packet with a CRC."""
+    whole = bytes([0x53, address, 8 + len(data), 0, number | 4, code]) + data
+    crc = 0x1D0F
+    for byte in whole:
+        crc ^= byte << 8
+        for _ in range(8):
+            crc = (crc << 1 ^ (0x1021 if crc & 0x8000 else 0)) & 0xFFFF
+    return whole + crc.to_bytes(2, "little")
+
+
 def commands(top, osdp, built):
     """Of the panel and of a reader, what stands before the port and what before the settings: an example in Python with its program, or one in C."""
     for name in ("panel", "reader"):

@@ -5,7 +5,8 @@ Each run has its own settings, a program that ticks up to `late` ms late, and a 
 bound stands beside it: none may lie above, and what is said to be reached is reached. A bound with a part left out, or without one of its
 premises, is broken by some run: so the runs can fail.
 
-Where a POLL comes between two orders (`poll-between-orders`), orders are held back beside the bus, and an order and a card have bounds of their own.
+Where a POLL comes between any two orders, as in every panel, orders are held back until it has gone out, and an order and a card have bounds of their own. The other bounds
+of an order and a card are those of a bus whose settings leave that POLL out.
 
     times.py [SEED] [RUNS]"""
 import random

@@ -50,14 +50,14 @@ use osdp_panel::Panel;
 
 pub fn a_panel_drops(panel: &mut Panel, now: u64) {
     let mut turn = osdp_panel::Turn::new();
-    let _ = panel.turn(&[], now, &mut turn);
+    let _ = panel.tick(now, &mut turn);
 }
 
 pub fn a_panel_leaves(panel: &mut Panel, bytes: &[u8], now: u64) -> Option<u8> {
     let mut turn = osdp_panel::Turn::new();
-    let unsent = panel.turn(bytes, now, &mut turn);
+    let unsent = panel.tick(now, &mut turn);
     bytes.first()?;
-    unsent?.bytes(&turn).first().copied()
+    panel.write(unsent?, now, &turn).first().copied()
 }
 
 pub fn a_device_drops(device: &mut Device<ProgramAnswers>, now: u64) {
@@ -82,8 +82,9 @@ use osdp_panel::{Panel, Turn};
 
 pub fn a_panel_sends(panel: &mut Panel, bytes: &[u8], now: u64) -> Option<u8> {
     let mut turn = Turn::new();
-    let unsent = panel.turn(bytes, now, &mut turn)?;
-    unsent.bytes(&turn).first().copied()
+    panel.hear(bytes, now);
+    let unsent = panel.tick(now, &mut turn)?;
+    panel.write(unsent, now, &turn).first().copied()
 }
 CODE
 exit 0

@@ -3,17 +3,15 @@
 
     waits.py PROGRAM
 
-Three readers answer 40 ms after each packet. Without POLLs between orders each gets four orders at once, again and again, and has a card now and then. With them, as by
-default, each has four orders that have no end yet, all the time, and a card that waits. An order's wait is from the line that orders it to its packet, and a card's from
-the moment from which the reader has it to the panel's line. Each is judged by the figure for so many orders before it, of a card with those that are given until it is
-told.
+Three readers answer 40 ms after each packet. Each has four orders that have no end yet, all the time, and a card that waits. An order's wait is from the line that orders
+it to its packet, and a card's from the moment from which the reader has it to the panel's line. Each is judged by the figure for so many orders before it, of a card with
+one at the most.
 
 Something is due all the time, so from an answer to the next packet the panel is late: its worst of the run is the `late` of the figures, and this test's own lateness
 is part of `answer`. SLACK is left for the pipes at both ends. A machine that does other things makes both late by MOST_LATE at the most: of five runs one has to be
-so, and to stay below the figures. An order with others before it waits longer than the figure for one alone: so orders before it count. Last come orders all the time
-without POLLs between them: there a card has to wait longer than the figure, so that the test can fail."""
+so, and to stay below the figures. An order with others before it waits longer than the figure for one alone: so orders before it count. From the moment at which a reader
+has a card to the POLL that it tells it by, one order comes to it in some case, and never two, though four wait."""
 import math
-import random
 import os
 import select
 import subprocess
@@ -34,7 +32,7 @@ program = sys.argv[1]
 def planned(what, orders, run):
     """The milliseconds that `osdp plan` says for all readers that answer, and for a panel and readers that are as late as in this run."""
     words = (f"readers {READERS} rate {RATE} check sum longest 20 answer {ANSWER + math.ceil(1000 * run.answers_late)} late {math.ceil(1000 * run.late)} "
-             f"reply-wait 400 poll-interval {INTERVAL} poll-between-orders {run.switch} orders {orders}")
+             f"reply-wait 400 poll-interval {INTERVAL} orders {orders}")
     told = subprocess.run([program, "plan", *words.split()], capture_output=True, text=True, check=True, timeout=60).stdout
     return next(int(line.split()[len(what.split())]) for line in told.splitlines() if line.startswith(what))
 
@@ -59,19 +57,19 @@ class Reader:
 
 
 class Run:
-    """A panel and its readers for so many seconds, with pauses that are picked or with none. The worst waits, by how many orders stood before."""
+    """A panel and its readers for so many seconds. The worst waits, by how many orders stood before."""
 
-    def __init__(self, switch, pick=None):
-        self.terminal, self.switch, self.pick = Terminal(), switch, pick
-        words = f"check sum reply-wait 400 quiet-wait 60 capacity 16 poll-interval {INTERVAL} poll-between-orders {switch}".split()
+    def __init__(self):
+        self.terminal = Terminal()
+        words = f"check sum reply-wait 400 quiet-wait 60 capacity 16 poll-interval {INTERVAL}".split()
         addresses = ",".join(str(at) for at in range(READERS))
         self.panel = Script(PORT, "--plain", "--osdp", program, self.terminal.path, RATE, "panel", addresses, *words, stderr=subprocess.DEVNULL)
         self.readers = [Reader(at) for at in range(READERS)]
         self.answers = []                               # with their moments
         self.given = [[] for _ in self.readers]         # orders that haven't gone out: their number, their moment and how many were before them
         self.unsettled = [0] * READERS
-        self.rest = [[0.0, 0.0] for _ in self.readers]  # until when the next orders and the next card are not given
-        self.has_card = [None] * READERS                # since when, and how many orders come before it
+        self.has_card = [None] * READERS                # since when, and how many orders were given before it
+        self.passed, self.most_passed = [0] * READERS, 0  # how many orders came to the reader before the card was told
         self.orders, self.cards = {}, {}
         self.count, self.told, self.seen, self.is_open = 0, 0, 0, set()
         self.answers_late = self.late = 0.0             # how late this test was with an answer, and the panel with its next packet
@@ -83,6 +81,10 @@ class Run:
             if self.answered and self.is_busy():
                 self.late = max(self.late, now - self.answered)
             self.answered = None
+            reader = self.readers[at]
+            if burst[5] == OUT and self.has_card[at] and not (reader.is_told and len(reader.cards) == 1):
+                self.passed[at] += 1
+                self.most_passed = max(self.most_passed, self.passed[at])
             if burst[5] == OUT and self.given[at] and int.from_bytes(burst[8:10], "little") == self.given[at][0][0]:
                 _, moment, before = self.given[at].pop(0)
                 self.orders[before] = max(self.orders.get(before, 0), now - moment)
@@ -92,24 +94,19 @@ class Run:
         self.panel.read()
         for line in self.panel.lines[self.seen:]:
             name, which, *_ = [*line.split(), "", ""]
-            if name == "opened":
+            if name == "online":
                 self.is_open.add(int(which))
             elif name == "settled":
                 self.unsettled[int(which)] -= 1
-                self.rest[int(which)][0] = self.after(0.1, 0.5)
             elif name in ("event", "maybe-again") and self.has_card[int(which)]:
                 since, before = self.has_card[int(which)]
-                before = min(before, 1) if self.switch == "on" else before
+                before = min(before, 1)
                 self.cards[before] = max(self.cards.get(before, 0), time.monotonic() - since)
                 self.told += 1
                 self.has_card[int(which)] = None
-                self.rest[int(which)][1] = self.after(0.05, 0.3)
             elif name in ("lost", "not"):
                 sys.exit(f"waits: {line}")
         self.seen = len(self.panel.lines)
-
-    def after(self, least, most):
-        return time.monotonic() + self.pick.uniform(least, most) if self.pick else 0.0
 
     def is_busy(self):
         """Whether all sessions have been open for so long that something is always due."""
@@ -126,13 +123,12 @@ class Run:
                 self.has_card[at][1] += 1
 
     def goes_on(self):
-        """Orders, where pauses are picked only once none has an end to come, and a card where none waits, once all sessions are open."""
+        """Orders, and a card where none waits, once all sessions are open."""
         for at in self.is_open if len(self.is_open) == READERS else ():
-            if (not self.unsettled[at] or not self.pick) and self.rest[at][0] <= time.monotonic():
-                self.orders_for(at)
-            if self.has_card[at] is None and self.rest[at][1] <= time.monotonic():
+            self.orders_for(at)
+            if self.has_card[at] is None:
                 self.readers[at].cards.append(b"%d" % (self.count % 10))
-                self.has_card[at] = [time.monotonic(), len(self.given[at])]
+                self.has_card[at], self.passed[at] = [time.monotonic(), len(self.given[at])], 0
 
     def go(self):
         end = time.monotonic() + SECONDS
@@ -162,16 +158,18 @@ def judged(run):
     return rows, [what for what, took, bound in rows if took > bound + SLACK]
 
 
-def tries(switch):
+def tries():
     """Up to five runs. Whether one of them stays below."""
     for attempt in range(5):
-        run = Run(switch, random.Random(attempt) if switch == "off" else None).go()
+        run = Run().go()
         lateness = max(run.late, run.answers_late)
         if run.count < 30 or run.told < 10 or lateness > MOST_LATE / 1000:
             print(f"waits: run {attempt + 1} had {run.count} orders and {run.told} cards, and something was late by {1000 * lateness:.0f} ms: the machine is too busy")
             continue
+        if run.most_passed != 1:
+            sys.exit(f"waits: {run.most_passed} orders came before a card, and not one at the most")
         rows, above = judged(run)
-        print(f"waits: poll-between-orders {switch}, run {attempt + 1}: {run.count} orders, {run.told} cards; the panel was late by {1000 * run.late:.1f} ms at worst, and an answer by {1000 * run.answers_late:.1f} ms")
+        print(f"waits: run {attempt + 1}: {run.count} orders, {run.told} cards; the panel was late by {1000 * run.late:.1f} ms at worst, and an answer by {1000 * run.answers_late:.1f} ms")
         for what, took, bound in rows:
             print(f"waits: {what}: {took:.0f} ms at worst, {bound} planned")
         alone = planned("order", 0, run)
@@ -183,19 +181,5 @@ def tries(switch):
     return False
 
 
-def starves():
-    """Whether a card waits as long as there are orders, where no POLL comes between them."""
-    run = Run("off").go()
-    worst = 1000 * max([*run.cards.values(), *(time.monotonic() - card[0] for card in run.has_card if card)], default=0)
-    # what a machine that does other things adds is more than is planned for
-    run.switch, run.late, run.answers_late = "on", min(run.late, MOST_LATE / 1000), min(run.answers_late, MOST_LATE / 1000)
-    bound = planned("card", 1, run)
-    print(f"waits: orders all the time without POLLs between them: a card waits {worst:.0f} ms of {1000 * SECONDS:.0f}; {bound} planned with them")
-    return worst > bound + SLACK + 1000
-
-
 port_line.osdp = program
-is_below = [tries("off"), tries("on")]
-if not starves():
-    sys.exit("waits: it was to wait longer, so nothing was tried")
-sys.exit(not all(is_below))
+sys.exit(not tries())

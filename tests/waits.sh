@@ -1,5 +1,5 @@
 #!/usr/bin/env bash
-# Over a pseudo terminal with slow readers: how long orders and cards wait at worst, with and without POLLs between orders, beside what `osdp plan` says. Takes the path of the program.
+# Over a pseudo terminal with slow readers: how long orders and cards wait at worst, beside what `osdp plan` says. Takes the path of the program.
 set -u
 program=$(cd "$(dirname "$1")" && pwd)/$(basename "$1")
 cd "$(dirname "$0")/.." || exit 1

@@ -28,12 +28,12 @@ bool refuses_rate(osdp_device *device, const struct osdp_answer *answer)
     return true;
 }
 
-void send_answer(int port, const char *kept, struct osdp_device_config *config, const struct osdp_answer *answer)
+void send_answer(int port, struct osdp_device_config *config, const struct osdp_answer *answer, uint64_t now)
 {
     if (answer->moved) {
-        keep(kept, answer->address, answer->baud_rate);
+        keep(answer->address, answer->baud_rate);
     }
-    write_all(port, &answer->burst);
+    (void)write_all(port, &answer->burst, now);
     if (answer->moved) {
         config->address = answer->address;
         demand_rate(port, answer->baud_rate);

@@ -9,9 +9,9 @@
  * session, and finds the device where it was. The events that wait are told, `withdrawn` or `in doubt`, and no panel gets them. */
 bool refuses_rate(osdp_device *device, const struct osdp_answer *answer);
 
-/* Sends what a device says. A new place is kept before the panel is told, if a file is named, so that it isn't lost with the power. The port goes to the new rate
+/* Sends what a device says. A new place is kept before the panel is told, if there is a store, so that it isn't lost with the power. The port goes to the new rate
  * after that. */
-void send_answer(int port, const char *kept, struct osdp_device_config *config, const struct osdp_answer *answer);
+void send_answer(int port, struct osdp_device_config *config, const struct osdp_answer *answer, uint64_t now);
 
 /* Lets the events go that have waited for longer than so many milliseconds while no panel was there, and tells each: `withdrawn`, or `in doubt` where the panel may
  * have it. A card of long ago would open the door when the panel comes back. */

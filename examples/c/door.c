@@ -5,29 +5,29 @@
 #include <string.h>
 
 #include "port.h"
+#include "store.h"
 #include "words.h"
 
 #define KEPT 64 /* how many stands a file keeps at most */
 
-static const char *path;
 static struct stand stands[KEPT];
 static size_t count;
 
 /* Writes where the device is. Whether that was done. */
 static bool keep_door(void)
 {
-    bool is_kept = keep_stands(path, stands, count);
+    bool is_kept = keep_stands(stands, count);
     if (!is_kept) {
-        tell("not kept\n");
+        tell("not kept: %s\n", store_fault());
     }
     return is_kept;
 }
 
-osdp_status add_door(osdp_panel *panel, struct door *door, const char *kept, uint32_t name, uint32_t rate)
+osdp_status add_door(osdp_panel *panel, struct door *door, const struct kept_words *kept, uint32_t name, uint32_t rate)
 {
-    path = kept;
-    count = read_stands(path, stands, KEPT);
+    count = read_stands(kept, stands, KEPT);
     *door = (struct door){ .stand = stand_of(stands, &count, KEPT, name, rate) };
+    (void)keep_door();
     osdp_site_new(&door->site, &door->place, 1, OSDP_SITE_ANY_LENGTH, 0);
     return osdp_panel_add(panel, place_of(door->stand).address, &door->entry);
 }
@@ -76,10 +76,10 @@ void leave_door(struct door *door)
     door->may_order = false;
 }
 
-void write_door(const struct door *door, int port, const struct osdp_burst *burst)
+void write_door(struct door *door, int port, const struct osdp_burst *burst, uint64_t since)
 {
-    if (!door->is_left) {
-        write_all(port, burst);
+    if (!door->is_left && !write_all(port, burst, since)) {
+        leave_door(door);
     }
 }
 

@@ -4,6 +4,7 @@
 
 #include "kept.h"
 #include "osdp_site.h"
+#include "words.h"
 
 struct door {
     osdp_size entry;
@@ -17,9 +18,9 @@ struct door {
     struct osdp_site_entry place;
 };
 
-/* Adds the device that was at an address when it was first used, where the file has it, if one is named, or else at that address and this rate. Ends the
- * program where the file has another device there. */
-osdp_status add_door(osdp_panel *panel, struct door *door, const char *kept, uint32_t name, uint32_t rate);
+/* Adds the device that was at an address when it was first used, where the store has it, if one is named, or else at that address and this rate. Makes the store
+ * where that is wanted. Ends the program where it has another device there. */
+osdp_status add_door(osdp_panel *panel, struct door *door, const struct kept_words *kept, uint32_t name, uint32_t rate);
 
 /* Does what a report asks for about its place and its session. Another device that answers is told, and gets no order. Where the door may be at two places, and
  * another device stands at one of them, that session is let end, and the door is looked for at the other place too. */
@@ -30,8 +31,8 @@ void heed_door(struct door *door, const struct osdp_report *report, uint64_t now
  * done too: the device is at either place, and the panel may take no other COMSET for it until it is looked for anew. */
 void leave_door(struct door *door);
 
-/* Writes what the panel says, but for a door that is left. */
-void write_door(const struct door *door, int port, const struct osdp_burst *burst);
+/* Writes what the panel says, but for a door that is left. One that is late since this moment isn't written, and the door is left: else an order would go out late. */
+void write_door(struct door *door, int port, const struct osdp_burst *burst, uint64_t since);
 
 /* Begins a session whose moment has come, at each of its places in turn. The orders that waited are stale. */
 void begin_door(osdp_panel *panel, struct door *door, int port, uint64_t now);

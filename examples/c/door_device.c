@@ -1,4 +1,4 @@
-/* A device with two outputs: `door_device [--keep FILE] PORT RATE`, at address 5, or where the file has it after a COMSET. A line `card 12345640` says that a
+/* A device with two outputs: `door_device [--keep FILE [--new]] PORT RATE`, at address 5, or where the file has it after a COMSET. A line `card 12345640` says that a
  * card was read. Each output that is switched on is printed, and so is a card that was too old: `withdrawn`, or `in doubt` where the panel may have it. */
 #include <string.h>
 
@@ -28,7 +28,7 @@ int main(void)
 static struct osdp_device_config config = { .address = 5, .capacity = 64, .gap = 20, .serial = 1, .product.vendor = { 'S', 'I', 'M' } };
 static osdp_device device;
 static int port;
-static const char *kept; /* the file that keeps address and rate, if one is named */
+static struct kept_words kept; /* the store that keeps address and rate, if one is named */
 
 /* An OUT that may not be done is refused before it is answered; one that was confirmed is done. All else is answered as it was set. */
 static void take_out(const struct osdp_message *out, uint32_t order)
@@ -54,15 +54,15 @@ static void make_device(void)
 }
 
 /* The device does what it is to do, and then what it says goes out: so an order that is answered was done, also where power is lost in between. */
-static void take_answer(const struct osdp_answer *answer, uint64_t now)
+static void take_answer(void *of, const struct osdp_answer *answer, uint64_t now)
 {
-    (void)now;
+    (void)of; /* the one device of this program */
     if (refuses_rate(&device, answer)) {
         make_device();
         return;
     }
     take_out(&answer->command, answer->order);
-    send_answer(port, kept, &config, answer);
+    send_answer(port, &config, answer, now);
 }
 
 /* A card of 26 bits was read, where a line says so: it is told to the next POLL. */
@@ -81,16 +81,16 @@ int main(int count, char **words)
 {
     static struct lines lines;
     uint8_t bytes[4096];
-    words = take_just(count, words, 2, "door_device [--keep FILE] PORT RATE\n", &kept);
+    words = take_just(count, words, 2, "door_device [--keep FILE [--new]] [--late MS] PORT RATE\n", &kept);
     uint32_t rate = number(words[1], "rate");
-    (void)read_kept(kept, &config.address, &rate);
+    read_kept(&kept, &config.address, &rate);
     make_device();
     port = open_port(words[0], rate);
     for (;;) {
-        size_t length = read_port(port, &lines, 10, bytes, sizeof bytes);
-        uint64_t now = moment(); /* after the read: not before it */
+        uint64_t now;
+        size_t length = read_port(port, &lines, 10, bytes, sizeof bytes, &now);
         let_go(&device, now, TOO_OLD); /* before anything is heard: so a panel that is back gets no card of long ago */
-        osdp_device_turn(&device, bytes, length, now, take_answer);
+        osdp_device_turn(&device, bytes, length, now, take_answer, NULL);
         for (const char *line = next_line(&lines); line != NULL; line = next_line(&lines)) {
             take_line(line);
         }

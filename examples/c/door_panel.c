@@ -1,5 +1,5 @@
-/* A panel that opens a door for two cards: `door_panel [--keep FILE] PORT RATE`. The door is the device at address 5. What it reports is printed. A line
- * `move 7 9600` gives the device another address and rate, which FILE keeps: a panel that starts again finds it there. */
+/* A panel that opens a door for two cards: `door_panel [--keep FILE [--new]] PORT RATE`. The door is the device at address 5. What it reports is printed. A line
+ * `move 7 9600` gives the device another address and rate, which FILE keeps: a panel that starts again finds it there. `--new` makes FILE. */
 #include <string.h>
 
 #include "door.h"
@@ -55,21 +55,19 @@ int main(int count, char **words)
     static struct osdp_burst burst;
     struct osdp_panel_config config;
     uint8_t bytes[4096];
-    const char *kept = NULL;
-    words = take_just(count, words, 2, "door_panel [--keep FILE] PORT RATE\n", &kept);
+    struct kept_words kept = { 0 };
+    words = take_just(count, words, 2, "door_panel [--keep FILE [--new]] [--late MS] PORT RATE\n", &kept);
     uint32_t rate = number(words[1], "rate");
     osdp_panel_defaults(&config);
-    config.poll_between_orders = 1; /* a card waits for no orders */
     osdp_status status = osdp_panel_new(&panel, &config);
-    status = status == OSDP_OK ? add_door(&panel, &door, kept, 5, rate) : status;
+    status = status == OSDP_OK ? add_door(&panel, &door, &kept, 5, rate) : status;
     if (status != OSDP_OK) {
         stop(OUT_OF_MEMORY, "%s", osdp_status_text(status));
     }
     int port = open_port(words[0], rate);
     for (;;) {
-        uint64_t wait = osdp_site_wait(&door.site, &panel, moment(), UINT64_MAX);
-        size_t length = read_port(port, &lines, wait, bytes, sizeof bytes);
-        uint64_t now = moment(); /* after the read: not before it */
+        uint64_t now, wait = osdp_site_wait(&door.site, &panel, moment(), UINT64_MAX);
+        size_t length = read_port(port, &lines, wait, bytes, sizeof bytes, &now);
         if (was_stopped()) {
             leave_door(&door); /* a card, or an order, of before would open the door now */
         }
@@ -82,7 +80,7 @@ int main(int count, char **words)
         }
         begin_door(&panel, &door, port, now);
         (void)osdp_panel_tick(&panel, now, &burst);
-        write_door(&door, port, &burst);
+        write_door(&door, port, &burst, now);
         take_reports(now);
     }
 }

@@ -1,181 +1,171 @@
-/* Files that keep where devices are, by POSIX calls. */
-#define _DEFAULT_SOURCE
+/* Where devices are while there is no power, in the program's store. */
 #include "kept.h"
 
-#include <errno.h>
-#include <fcntl.h>
 #include <stdio.h>
 #include <string.h>
-#include <unistd.h>
 
+#include "store.h"
 #include "words.h"
 
-bool read_kept(const char *path, uint32_t *address, uint32_t *rate)
-{
-    char line[32], rest;
-    unsigned read_address, read_rate;
-    FILE *file = path != NULL ? fopen(path, "r") : NULL;
-    if (file == NULL && (path == NULL || errno == ENOENT)) {
-        return false;
-    }
-    bool is_place = file != NULL && fgets(line, sizeof line, file) != NULL && sscanf(line, "%u %u %c", &read_address, &read_rate, &rest) == 2 && read_address <= 126;
-    if (file != NULL) {
-        fclose(file);
-    }
-    if (!is_place) {
-        stop(FAILED, "the kept place can't be read: %s", path);
-    }
-    *address = read_address;
-    *rate = read_rate;
-    return true;
-}
+static uint32_t own_name; /* of a reader: the address at which it was first */
 
-/* Writes a new file to the disk. Whether that was done. */
-static bool write_new(const char *path, const char *text)
+void read_kept(const struct kept_words *words, uint32_t *address, uint32_t *rate)
 {
-    FILE *file = fopen(path, "w");
-    if (file == NULL) {
-        return false;
+    if (words->path == NULL) {
+        return;
     }
-    bool written = fputs(text, file) >= 0 && fflush(file) == 0 && fsync(fileno(file)) == 0;
-    return fclose(file) == 0 && written;
-}
-
-void note_folder(char *path)
-{
-    char *end = strrchr(path, '/');
-    if (end != NULL) {
-        end[end == path] = '\0';
+    open_store(words->path, "device", words->is_new);
+    sqlite3_stmt *found = find_in_store("SELECT device, address, rate FROM places WHERE rank = 0", "");
+    bool is_kept = next_row(found);
+    if (is_kept) {
+        own_name = (uint32_t)sqlite3_column_int64(found, 0);
+        *address = (uint32_t)sqlite3_column_int64(found, 1);
+        *rate = (uint32_t)sqlite3_column_int64(found, 2);
     }
-    int folder = open(end != NULL ? path : ".", O_RDONLY);
-    if (folder >= 0) {
-        (void)fsync(folder);
-        close(folder);
+    if (is_kept && next_row(found)) {
+        stop(FAILED, "%s keeps several devices, and a reader is one: name another file", words->path);
+    }
+    (void)sqlite3_finalize(found);
+    if (!is_kept) {
+        own_name = *address;
+        keep(*address, *rate);
     }
 }
 
-/* Whether the file has this text, and no other. */
-static bool has_text(const char *path, const char *text)
+void keep(uint32_t address, uint32_t rate)
 {
-    FILE *file = fopen(path, "r");
-    bool is_same = file != NULL;
-    for (; is_same && *text != '\0'; text++) {
-        is_same = fgetc(file) == (unsigned char)*text;
-    }
-    is_same = is_same && fgetc(file) == EOF && !ferror(file);
-    if (file != NULL) {
-        fclose(file);
-    }
-    return is_same;
-}
-
-/* Puts a text in the place of the file, where that has another one: flash wears out by each write. Whether the file has it. */
-static bool keep_text(const char *path, const char *text)
-{
-    char new[4096];
-    int length = snprintf(new, sizeof new, "%s.new", path);
-    if (has_text(path, text)) {
-        return true;
-    }
-    if (length < 0 || (size_t)length >= sizeof new) {
-        return false;
-    }
-    if (!write_new(new, text) || rename(new, path) != 0) {
-        (void)unlink(new); /* the disk may be full */
-        return false;
-    }
-    note_folder(new);
-    return true;
-}
-
-void keep(const char *path, uint32_t address, uint32_t rate)
-{
-    char text[32];
-    snprintf(text, sizeof text, "%u %u\n", (unsigned)address, (unsigned)rate);
-    if (path != NULL && !keep_text(path, text)) {
-        tell("not kept %u %u\n", (unsigned)address, (unsigned)rate);
+    struct stand stand = { .name = own_name, .count = 1, .places = { { address, rate } } };
+    if (!keep_stands(&stand, 1)) {
+        tell("not kept %u %u: %s\n", (unsigned)address, (unsigned)rate, store_fault());
     }
 }
 
-/* Reads a line such as `5 at 7 19200 or 5 9600 is 53494D 1 12345`; the part from `or` and the part from `is` may be left out. Whether it is that. */
-static bool read_stand(const char *line, struct stand *stand)
+/* The stand whose name the row has. What the store takes has at least one place, and at most three. */
+static void read_stand(sqlite3_stmt *row, struct stand *stand)
 {
-    unsigned name, address, rate, vendor, model, serial;
-    int end = 0;
-    *stand = (struct stand){ .count = 1 };
-    if (sscanf(line, "%3u at %3u %10u%n", &name, &address, &rate, &end) != 3) {
-        return false;
+    const char *vendor = (const char *)sqlite3_column_text(row, 1);
+    unsigned bytes = 0;
+    *stand = (struct stand){ .name = (uint32_t)sqlite3_column_int64(row, 0), .is_known = vendor != NULL };
+    if (vendor != NULL && sscanf(vendor, "%6x", &bytes) == 1) {
+        stand->id.product = (struct osdp_product){ .vendor = { (uint8_t)(bytes >> 16), (uint8_t)(bytes >> 8), (uint8_t)bytes }, .model = (uint8_t)sqlite3_column_int(row, 2) };
+        stand->id.serial = (uint32_t)sqlite3_column_int64(row, 3);
     }
-    stand->name = name;
-    stand->places[0] = (struct place){ address, rate };
-    line += end;
-    if (sscanf(line, " or %3u %10u%n", &address, &rate, &end) == 2) {
-        stand->places[stand->count++] = (struct place){ address, rate };
-        line += end;
+    sqlite3_stmt *places = find_in_store("SELECT address, rate FROM places WHERE device = ? ORDER BY rank DESC", "i", (long long)stand->name);
+    while (stand->count < PLACES && next_row(places)) { /* the place in use, of rank 0, is the last one */
+        stand->places[stand->count++] = (struct place){ (uint32_t)sqlite3_column_int64(places, 0), (uint32_t)sqlite3_column_int64(places, 1) };
     }
-    if (sscanf(line, " is %6x %3u %10u%n", &vendor, &model, &serial, &end) == 3) {
-        stand->is_known = true;
-        stand->id.serial = serial;
-        stand->id.product = (struct osdp_product){ .vendor = { (uint8_t)(vendor >> 16), (uint8_t)(vendor >> 8), (uint8_t)vendor }, .model = (uint8_t)model };
-        line += end;
+    (void)sqlite3_finalize(places);
+}
+
+bool may_be_at(const struct stand *stand, uint32_t address)
+{
+    for (size_t i = 0; i < stand->count; i++) {
+        if (stand->places[i].address == address) {
+            return true;
+        }
     }
-    return strcmp(line, "\n") == 0 && name <= 126 && stand->places[0].address <= 126 && place_of(stand).address <= 126;
+    return false;
+}
+
+/* Whether two devices may be at one address. */
+static bool do_meet(const struct stand *one, const struct stand *other)
+{
+    for (size_t i = 0; i < one->count; i++) {
+        if (may_be_at(other, one->places[i].address)) {
+            return true;
+        }
+    }
+    return false;
 }
 
 /* A stand, of which an address is that of this one too; NULL where there is none. */
 static const struct stand *neighbour(const struct stand *stands, size_t count, const struct stand *stand)
 {
-    for (size_t i = 0; i < 2 * 2 * count; i++) {
-        const struct stand *other = &stands[i / 4];
-        size_t mine = i % 2, its = i / 2 % 2;
-        if (other != stand && mine < stand->count && its < other->count && stand->places[mine].address == other->places[its].address) {
-            return other;
+    for (size_t i = 0; i < count; i++) {
+        if (&stands[i] != stand && do_meet(&stands[i], stand)) {
+            return &stands[i];
         }
     }
     return NULL;
 }
 
-size_t read_stands(const char *path, struct stand *stands, size_t most)
+size_t read_stands(const struct kept_words *words, struct stand *stands, size_t most)
 {
-    char line[128];
     size_t count = 0;
-    FILE *file = path != NULL ? fopen(path, "r") : NULL;
-    if (file == NULL && (path == NULL || errno == ENOENT)) {
+    if (words->path == NULL) {
         return 0;
     }
-    bool is_good = file != NULL;
-    while (is_good && fgets(line, sizeof line, file) != NULL) {
-        is_good = count < most && read_stand(line, &stands[count]) && neighbour(stands, count, &stands[count]) == NULL;
-        count++;
+    open_store(words->path, "panel", words->is_new);
+    sqlite3_stmt *found = find_in_store("SELECT name, vendor, model, serial FROM devices ORDER BY name", "");
+    for (; next_row(found); count++) {
+        if (count == most) {
+            stop(FAILED, "%s keeps more than %zu devices", words->path, most);
+        }
+        read_stand(found, &stands[count]);
+        if (stands[count].count == 0 || neighbour(stands, count, &stands[count]) != NULL) {
+            stop(FAILED, "%s is damaged: device %u has no place of its own. Bring back a copy of it", words->path, (unsigned)stands[count].name);
+        }
     }
-    if (file != NULL) {
-        is_good = is_good && !ferror(file);
-        fclose(file);
-    }
-    if (!is_good) {
-        stop(FAILED, "the kept places can't be read: %s", path);
-    }
+    (void)sqlite3_finalize(found);
     return count;
 }
 
-bool keep_stands(const char *path, const struct stand *stands, size_t count)
+/* Whether the store has this stand already. */
+static bool is_kept(const struct stand *stand)
 {
-    char text[8192] = "";
-    size_t at = 0;
-    for (size_t i = 0; i < count && at + 128 < sizeof text; i++) {
-        const struct stand *stand = &stands[i];
-        const struct osdp_product *product = &stand->id.product;
-        at += (size_t)sprintf(text + at, "%u at %u %u", (unsigned)stand->name, (unsigned)stand->places[0].address, (unsigned)stand->places[0].rate);
-        if (stand->count > 1) {
-            at += (size_t)sprintf(text + at, " or %u %u", (unsigned)stand->places[1].address, (unsigned)stand->places[1].rate);
-        }
-        if (stand->is_known) {
-            at += (size_t)sprintf(text + at, " is %02X%02X%02X %u %u", product->vendor[0], product->vendor[1], product->vendor[2], product->model,
-                (unsigned)stand->id.serial);
-        }
-        at += (size_t)sprintf(text + at, "\n");
+    struct stand kept = { 0 };
+    sqlite3_stmt *found = find_in_store("SELECT name, vendor, model, serial FROM devices WHERE name = ?", "i", (long long)stand->name);
+    bool has_row = next_row(found);
+    if (has_row) {
+        read_stand(found, &kept);
     }
-    return path == NULL || keep_text(path, text);
+    (void)sqlite3_finalize(found);
+    bool is_equal = has_row && kept.count == stand->count && kept.is_known == stand->is_known && (!kept.is_known || is_same_device(&kept.id, &stand->id));
+    for (size_t i = 0; is_equal && i < kept.count; i++) {
+        is_equal = is_same_place(kept.places[i], stand->places[i]);
+    }
+    return is_equal;
+}
+
+/* What a device is, in its row. */
+static bool write_identity(const struct stand *stand)
+{
+    char vendor[7];
+    const uint8_t *bytes = stand->id.product.vendor;
+    long long name = stand->name;
+    (void)snprintf(vendor, sizeof vendor, "%02X%02X%02X", bytes[0], bytes[1], bytes[2]);
+    if (!write_store("INSERT OR IGNORE INTO devices (name) VALUES (?)", "i", name)) {
+        return false;
+    }
+    if (!stand->is_known) {
+        return write_store("UPDATE devices SET vendor = NULL, model = NULL, serial = NULL WHERE name = ?", "i", name);
+    }
+    return write_store("UPDATE devices SET vendor = ?, model = ?, serial = ? WHERE name = ?", "tiii", vendor, (long long)stand->id.product.model,
+        (long long)stand->id.serial, name);
+}
+
+bool write_stand(const struct stand *stand)
+{
+    long long name = stand->name;
+    if (is_kept(stand)) {
+        return true;
+    }
+    bool is_written = write_identity(stand) && write_store("DELETE FROM places WHERE device = ?", "i", name);
+    for (size_t rank = 0; is_written && rank < stand->count; rank++) {
+        struct place place = stand->places[stand->count - 1 - rank];
+        is_written = write_store("INSERT INTO places VALUES (?, ?, ?, ?)", "iiii", name, (long long)rank, (long long)place.address, (long long)place.rate);
+    }
+    return is_written;
+}
+
+bool keep_stands(const struct stand *stands, size_t count)
+{
+    for (size_t i = 0; has_store() && i < count; i++) {
+        if (!write_stand(&stands[i])) {
+            return false;
+        }
+    }
+    return commit_store();
 }
 
 struct stand *stand_of(struct stand *stands, size_t *count, size_t most, uint32_t name, uint32_t rate)
@@ -201,7 +191,7 @@ struct stand *stand_of(struct stand *stands, size_t *count, size_t most, uint32_
 bool is_taken(const struct stand *stands, size_t count, const struct stand *stand, uint32_t address)
 {
     for (size_t i = 0; i < count; i++) {
-        if (&stands[i] != stand && (stands[i].places[0].address == address || place_of(&stands[i]).address == address)) {
+        if (&stands[i] != stand && may_be_at(&stands[i], address)) {
             return true;
         }
     }
@@ -233,11 +223,14 @@ bool is_same_place(struct place one, struct place other)
 
 void try_place(struct stand *stand, struct place place)
 {
-    struct place last = place_of(stand);
-    if (!is_same_place(last, place)) {
-        stand->places[0] = last;
-        stand->places[stand->count - 1] = place;
+    size_t at = 0;
+    while (at + 1 < stand->count && !is_same_place(stand->places[at], place)) {
+        at++;
     }
+    for (; at + 1 < stand->count; at++) { /* the others come before it, in their order */
+        stand->places[at] = stand->places[at + 1];
+    }
+    stand->places[stand->count - 1] = place;
 }
 
 bool is_same_device(const struct osdp_pd_id *one, const struct osdp_pd_id *other)

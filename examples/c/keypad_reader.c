@@ -1,4 +1,4 @@
-/* A device with a card reader, a keypad and a relay: `keypad_reader [--keep FILE] PORT RATE ADDRESS`. A line `RAW 0 0 26 12345640` is a card, `KEYPAD 0 31323334`
+/* A device with a card reader, a keypad and a relay: `keypad_reader [--keep FILE [--new]] PORT RATE ADDRESS`. A line `RAW 0 0 26 12345640` is a card, `KEYPAD 0 31323334`
  * are keys, and `ISTATR 01` the door's contact. The relay, output 0, is on for the time that is ordered. LED and buzzer are told as they are ordered. A COMSET
  * gives the device another address and rate, which FILE keeps. What has waited for 30 s while no panel is there is told to nobody any more. */
 #include <stdio.h>
@@ -17,7 +17,7 @@ static struct osdp_device_config config = { .capacity = 64, .gap = 20, .serial =
 static uint8_t contact[1]; /* the door's: 1 where it is open */
 static osdp_device device;
 static int port;
-static const char *kept; /* the file that keeps address and rate, if one is named */
+static struct kept_words kept; /* the store that keeps address and rate, if one is named */
 static uint64_t relay_ends = UINT64_MAX; /* when the relay goes off; UINT64_MAX while it is off */
 
 /* Whether an output may be switched so: the relay for a time, or off. A door may not stand open for good. */
@@ -72,8 +72,9 @@ static void take_out(const struct osdp_answer *answer, uint64_t now)
 }
 
 /* The device does what it is to do, and then what it says goes out: so an order that is answered was done. */
-static void take_answer(const struct osdp_answer *answer, uint64_t now)
+static void take_answer(void *of, const struct osdp_answer *answer, uint64_t now)
 {
+    (void)of; /* the one device of this program */
     if (refuses_rate(&device, answer)) {
         make_device();
         return;
@@ -82,7 +83,7 @@ static void take_answer(const struct osdp_answer *answer, uint64_t now)
     if (answer->order == OSDP_ORDER_ONCE && (answer->command.code == OSDP_LED || answer->command.code == OSDP_BUZ)) {
         tell("%s\n", command_text(&answer->command));
     }
-    send_answer(port, kept, &config, answer);
+    send_answer(port, &config, answer, now);
 }
 
 /* A card, keys or the contact, by its text: it is told to the next POLL. What the contact is from now on is the answer to ISTAT, also where as many events wait
@@ -105,22 +106,22 @@ int main(int count, char **words)
 {
     static struct lines lines;
     uint8_t bytes[4096];
-    words = take_just(count, words, 3, "keypad_reader [--keep FILE] PORT RATE ADDRESS\n", &kept);
+    words = take_just(count, words, 3, "keypad_reader [--keep FILE [--new]] [--late MS] PORT RATE ADDRESS\n", &kept);
     uint32_t rate = number(words[1], "rate");
     config.address = number(words[2], "address");
-    (void)read_kept(kept, &config.address, &rate);
+    read_kept(&kept, &config.address, &rate);
     make_device();
     port = open_port(words[0], rate);
     switch_relay(false, UINT64_MAX); /* the program before this one may have left it on */
     (void)atexit(release);
     for (;;) {
-        size_t length = read_port(port, &lines, 10, bytes, sizeof bytes);
-        uint64_t now = moment(); /* after the read: not before it */
+        uint64_t now;
+        size_t length = read_port(port, &lines, 10, bytes, sizeof bytes, &now);
         let_go(&device, now, TOO_OLD); /* before anything is heard: so a panel that is back gets no card of long ago */
         if (relay_ends <= now) {
             switch_relay(false, UINT64_MAX);
         }
-        osdp_device_turn(&device, bytes, length, now, take_answer);
+        osdp_device_turn(&device, bytes, length, now, take_answer, NULL);
         for (const char *line = next_line(&lines); line != NULL; line = next_line(&lines)) {
             take_line(line);
         }

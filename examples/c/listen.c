@@ -51,8 +51,9 @@ int main(int count, char **words)
     int port = open_port(words[0], number(words[1], "rate"));
     hear_all();
     for (;;) {
-        size_t length = read_port(port, &lines, GAP, bytes, sizeof bytes);
-        hear(bytes, length, moment());
+        uint64_t now;
+        size_t length = read_port(port, &lines, GAP, bytes, sizeof bytes, &now);
+        hear(bytes, length, now);
         if (next_line(&lines) != NULL) {
             demand_heard(osdp_monitor_table(&monitor));
         }

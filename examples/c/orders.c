@@ -24,13 +24,14 @@ static bool is_comset(const char *text, struct place *place)
 /* An order that has had no end yet. */
 struct given {
     struct given *next;
+    uint64_t since;
     char text[];
 };
 
 static struct given *given[MOST]; /* of each reader, the first one first */
 
 /* An order was taken. Nothing is told of its end where there is no memory to note it. */
-static void order_given(size_t entry, const char *text)
+static void order_given(size_t entry, const char *text, uint64_t now)
 {
     struct given **last = &given[entry];
     struct given *order = malloc(sizeof *order + strlen(text) + 1);
@@ -38,6 +39,7 @@ static void order_given(size_t entry, const char *text)
         return;
     }
     order->next = NULL;
+    order->since = now;
     strcpy(order->text, text);
     while (*last != NULL) {
         last = &(*last)->next;
@@ -52,6 +54,11 @@ void order_ended(size_t entry)
         given[entry] = first->next;
         free(first);
     }
+}
+
+uint64_t order_since(size_t entry)
+{
+    return given[entry] != NULL ? given[entry]->since : UINT64_MAX;
 }
 
 /* How many orders of a reader have had no end. */
@@ -113,7 +120,7 @@ static void tell_why(osdp_status status, size_t entry, const char *text)
 
 /* Hands the panel an order. Whether it was taken. Where a COMSET leads is kept before it can go out, but not where the panel refuses it for its address: no
  * loss of power may leave such a place. */
-static bool submit(struct osdp_panel *panel, size_t entry, const char *text)
+static bool submit(struct osdp_panel *panel, size_t entry, const char *text, uint64_t now)
 {
     struct known *reader = known_reader(entry);
     struct place place;
@@ -132,19 +139,19 @@ static bool submit(struct osdp_panel *panel, size_t entry, const char *text)
         tell_why(status, entry, text);
         return false;
     }
-    order_given(entry, text + strspn(text, " "));
+    order_given(entry, text + strspn(text, " "), now);
     return true;
 }
 
 /* Gives a COMSET with another rate to every other reader: the line has one rate. */
-static void move_others(struct osdp_panel *panel, size_t entry, uint32_t rate)
+static void move_others(struct osdp_panel *panel, size_t entry, uint32_t rate, uint64_t now)
 {
     char text[32];
     for (size_t i = 0; known_reader(i) != NULL; i++) {
         if (i != entry) {
             snprintf(text, sizeof text, "COMSET %u %u", (unsigned)place_of(known_reader(i)->stand).address, (unsigned)rate);
             tell("ordered %zu %s\n", i + 1, text);
-            if (!submit(panel, i, text)) {
+            if (!submit(panel, i, text, now)) {
                 tell("not taken %zu %s\n", i + 1, text);
             }
         }
@@ -162,7 +169,7 @@ static void tell_readers(size_t entry)
 }
 
 /* Takes an order for a reader, or refuses it. Whether it was taken. */
-static bool take(struct osdp_panel *panel, size_t entry, const char *text)
+static bool take(struct osdp_panel *panel, size_t entry, const char *text, uint64_t now)
 {
     struct known *reader = known_reader(entry);
     const char *why = reader != NULL ? refusal(reader, text) : NULL;
@@ -179,19 +186,19 @@ static bool take(struct osdp_panel *panel, size_t entry, const char *text)
         tell("refused %s\n", why);
         return false;
     }
-    return submit(panel, entry, text);
+    return submit(panel, entry, text, now);
 }
 
-void order(struct osdp_panel *panel, uint32_t rate, const char *line)
+void order(struct osdp_panel *panel, uint32_t rate, const char *line, uint64_t now)
 {
     const char *first = line + strspn(line, " ");
     char *text = (char *)first;
     size_t entry = *first >= '1' && *first <= '9' ? strtoul(first, &text, 10) - 1 : SIZE_MAX;
     struct place place;
     tell("ordered %s\n", line);
-    if (*text == ' ' && text != first ? !take(panel, entry, text) : tell_refusal(OSDP_BAD_TEXT)) {
+    if (*text == ' ' && text != first ? !take(panel, entry, text, now) : tell_refusal(OSDP_BAD_TEXT)) {
         tell("not taken %s\n", line);
     } else if (is_comset(text, &place) && place.rate != rate) {
-        move_others(panel, entry, place.rate);
+        move_others(panel, entry, place.rate, now);
     }
 }

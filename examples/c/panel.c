@@ -8,7 +8,7 @@
 #include "words.h"
 
 static const char usage[] =
-    "panel [--trace FILE] [--keep FILE] PORT RATE ADDRESS,ADDRESS.. [SETTING VALUE]..\n"
+    "panel [--trace FILE] [--keep FILE [--new]] [--late MS] PORT RATE ADDRESS,ADDRESS.. [SETTING VALUE]..\n"
     "\n"
     "Each line of standard input is an order: a reader's number and a command, as `1 OUT 0:5:30`. The number is the place of\n"
     "its ADDRESS in the list, from 1. docs/PROTOCOL.md has the texts of all commands. Each line of standard output is what\n"
@@ -18,15 +18,17 @@ static const char usage[] =
     "back, and told `withdrawn`. A lost session begins again after a second. Where the program ends, at Ctrl-C or since its\n"
     "port is gone, they are told so too, and an order that is under way is told `lost` and `stopped` or `port-gone`.\n"
     "A session is let end, and is told `lost`, where a COMSET is answered neither by a COM nor by a NAK, and where the\n"
-    "program was stopped for more than five seconds.\n"
+    "program was stopped for more than `--late`: 100 to 60000 milliseconds, and 5000 where it isn't named. No order goes\n"
+    "out that was given longer ago than that: in its place the session is let end.\n"
     "A COMSET is taken where every session is open. One with another rate is given to each reader. While no session is\n"
     "open the port goes through the rates at which readers may be, told `rate`, and tries each reader there once. Readers\n"
     "whose sessions are open keep the port at their rate. One that may be at another rate is looked for there, told\n"
     "`looks for`, and gets a COMSET that brings it to the others. While none is found, it is told `out of reach`, and the\n"
     "next search comes after 2 s, 4 s and so on up to 64 s.\n"
-    "The file of `--keep` keeps where each reader is, before a COMSET goes out and after its end, and what it is. A panel\n"
+    "The store of `--keep` has where each reader is, before a COMSET goes out and after its end, and what it is. A panel\n"
     "that starts again with the same words takes each reader there. A device that isn't the one which stood there is told\n"
-    "`another device`, and gets no order until a line such as `1 accept` allows it.\n"
+    "`another device`, and gets no order until a line such as `1 accept` allows it. `--new` makes the store, where there\n"
+    "is none. One that is gone, or was emptied or cut, is refused: the readers may be elsewhere than the words say.\n"
     "FILE of `--trace` gets each burst, both ways, as `osdp show` reads it.\n"
     "\n"
     "Settings: check sum or crc; reply-wait, poll-interval, busy-wait, quiet-wait and gap in milliseconds; sends,\n"
@@ -87,10 +89,10 @@ static void take_reports(void)
 }
 
 /* Hands the panel the orders that have come. */
-static void take_orders(struct lines *lines)
+static void take_orders(struct lines *lines, uint64_t now)
 {
     for (const char *line = next_line(lines); line != NULL; line = next_line(lines)) {
-        order(&panel, rate, line);
+        order(&panel, rate, line, now);
     }
 }
 
@@ -125,6 +127,20 @@ static bool is_idle(size_t count, uint64_t now)
     return count > 0 && due != answer_due && due != now + gap;
 }
 
+/* Begins a session of a reader at a place. Where the panel refuses the address, the session would begin at the one before, and its reader be taken for one at this place:
+ * it is tried again later. */
+static void begin_session(size_t entry, struct known *reader, struct place place, uint64_t now)
+{
+    osdp_status status = osdp_panel_retarget(&panel, entry, place.address);
+    if (status != OSDP_OK) {
+        tell("not begun %u %u %u: %s\n", (unsigned)entry + 1, (unsigned)place.address, (unsigned)place.rate, osdp_status_text(status));
+        reader_closed(reader, now + PAUSE);
+        return;
+    }
+    begin_at(reader, place);
+    (void)osdp_panel_begin(&panel, entry, now);
+}
+
 /* Sets the port to the rate that it is to have, and begins the sessions whose moment has come. */
 static void begin_sessions(uint64_t now)
 {
@@ -139,9 +155,7 @@ static void begin_sessions(uint64_t now)
         struct known *reader = known_reader(i);
         const struct place *place = next_place(reader, rate);
         if (place != NULL && reader->begins <= now) {
-            begin_at(reader, *place);
-            (void)osdp_panel_retarget(&panel, i, place_of(reader->stand).address);
-            (void)osdp_panel_begin(&panel, i, now);
+            begin_session(i, reader, *place, now);
         }
     }
 }
@@ -154,12 +168,22 @@ static void leave_readers(void)
     }
 }
 
-/* Writes what a panel says, but for a reader that is left. */
-static void write_burst(const osdp_panel *speaks, const struct osdp_burst *burst)
+/* The moment since which a burst may not be late: that of the turn, or, of an order, that at which it was given. */
+static uint64_t burst_since(const struct osdp_burst *burst, size_t entry, uint64_t now)
 {
-    const struct known *reader = burst->length > 0 && speaks == &panel ? known_reader(reader_at(burst->bytes[1]) - 1) : NULL;
-    if (reader == NULL || !reader->is_left) {
-        write_all(port, burst);
+    bool is_order = burst->bytes[5] != OSDP_POLL && burst->bytes[5] != OSDP_ID;
+    return is_order ? earlier(order_since(entry), now) : now;
+}
+
+/* Writes what a panel says, but for a reader that is left. Where it is late its reader is left too: else an order would go out late, now or once more. */
+static void write_burst(const osdp_panel *speaks, const struct osdp_burst *burst, uint64_t now)
+{
+    size_t entry = burst->length > 0 && speaks == &panel ? reader_at(burst->bytes[1]) - 1 : MOST;
+    struct known *reader = known_reader(entry);
+    if (reader == NULL) {
+        (void)write_all(port, burst, now);
+    } else if (!reader->is_left && !write_all(port, burst, burst_since(burst, entry, now))) {
+        leave_reader(reader);
     }
 }
 
@@ -169,8 +193,8 @@ static void turn(struct lines *lines)
     static struct osdp_burst burst;
     uint8_t bytes[4096];
     osdp_panel *speaks = searching() != NULL ? searching() : &panel;
-    size_t count = read_port(port, lines, until_due(speaks), bytes, sizeof bytes);
-    uint64_t now = moment(); /* after the read: not before it */
+    uint64_t now; /* of the wait's end, before what is there was read */
+    size_t count = read_port(port, lines, until_due(speaks), bytes, sizeof bytes, &now);
     if (osdp_panel_bytes(speaks, bytes, count, now) == OSDP_MOMENT_TOO_FAR) {
         (void)osdp_panel_set_moment(speaks, now); /* the program was stopped for more than a day */
     }
@@ -180,7 +204,7 @@ static void turn(struct lines *lines)
     (void)osdp_panel_set_moment(&panel, now); /* the line's panel too while the other one speaks: in this turn it may begin sessions again */
     take_found(now);
     take_reports();
-    take_orders(lines);
+    take_orders(lines, now);
     if (searching() == NULL) {
         begin_search(rate, now, is_idle(count, now));
     }
@@ -190,7 +214,7 @@ static void turn(struct lines *lines)
         speaks = &panel;
     }
     (void)osdp_panel_tick(speaks, now, &burst);
-    write_burst(speaks, &burst);
+    write_burst(speaks, &burst, now);
     answer_due = burst.length > 0 ? next_due(speaks) : answer_due;
     take_found(now);
     take_reports();
@@ -232,7 +256,7 @@ int main(int count, char **words)
 {
     static struct lines lines;
     struct osdp_panel_config config;
-    const char *kept = NULL;
+    struct kept_words kept = { 0 };
     osdp_panel_defaults(&config);
     words = take_words(&count, words, 3, usage, &kept);
     for (int i = 3; i < count; i += 2) {
@@ -246,8 +270,9 @@ int main(int count, char **words)
     if (status != OSDP_OK) {
         stop(BAD_WORDS, "a setting is out of its range");
     }
-    read_places(kept);
+    read_places(&kept);
     add_readers(words[2]);
+    make_places();
     port = open_port(words[0], rate);
     demand_rates();
     gap = config.gap;

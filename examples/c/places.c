@@ -2,33 +2,37 @@
 #include "places.h"
 
 #include "port.h"
+#include "store.h"
 #include "words.h"
 
 #define KEPT 64 /* how many stands a file keeps at most: those of readers that aren't in the list too, which may be on the line still */
 
-static const char *kept;
 static struct stand stands[KEPT];
 static size_t stand_count;
 static struct known readers[MOST];
 static size_t known_count;
 
-void read_places(const char *path)
+void read_places(const struct kept_words *words)
 {
-    kept = path;
-    stand_count = read_stands(path, stands, KEPT);
+    stand_count = read_stands(words, stands, KEPT);
 }
 
 bool keep_places(void)
 {
-    return keep_stands(kept, stands, stand_count);
+    return keep_stands(stands, stand_count);
 }
 
 /* Writes where the readers are, and tells where that can't be done. */
 static void try_keep(void)
 {
     if (!keep_places()) {
-        tell("not kept\n");
+        tell("not kept: %s\n", store_fault());
     }
+}
+
+void make_places(void)
+{
+    try_keep();
 }
 
 uint32_t join_reader(uint32_t name, uint32_t rate)
@@ -49,9 +53,9 @@ uint32_t join_reader(uint32_t name, uint32_t rate)
 
 void demand_rates(void)
 {
-    for (size_t i = 0; i < 2 * known_count; i++) {
-        const struct stand *stand = readers[i / 2].stand;
-        if (i % 2 < stand->count && !has_rate(stand->places[i % 2].rate)) {
+    for (size_t i = 0; i < PLACES * known_count; i++) {
+        const struct stand *stand = readers[i / PLACES].stand;
+        if (i % PLACES < stand->count && !has_rate(stand->places[i % PLACES].rate)) {
             stop(FAILED, "the port has no such rate");
         }
     }
@@ -65,8 +69,7 @@ struct known *known_reader(size_t entry)
 size_t reader_at(uint32_t address)
 {
     for (size_t i = 0; i < known_count; i++) {
-        const struct stand *stand = readers[i].stand;
-        if (stand->places[0].address == address || place_of(stand).address == address) {
+        if (may_be_at(readers[i].stand, address)) {
             return i + 1;
         }
     }
@@ -221,8 +224,9 @@ bool any_open(void)
 static uint32_t rate_after(uint32_t rate)
 {
     uint32_t next = 0, least = rate;
-    for (size_t i = 0; i < known_count * 2; i++) {
-        uint32_t each = readers[i / 2].stand->places[i % 2 < readers[i / 2].stand->count ? i % 2 : 0].rate;
+    for (size_t i = 0; i < known_count * PLACES; i++) {
+        const struct stand *stand = readers[i / PLACES].stand;
+        uint32_t each = stand->places[i % PLACES < stand->count ? i % PLACES : 0].rate;
         next = each > rate && (next == 0 || each < next) ? each : next;
         least = each < least ? each : least;
     }

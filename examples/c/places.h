@@ -4,6 +4,7 @@
 
 #include "kept.h"
 #include "osdp.h"
+#include "words.h"
 
 #define MOST 16 /* readers of a panel */
 #define PAUSE 1000 /* from a lost session to the next one, in milliseconds */
@@ -25,15 +26,18 @@ struct known {
     bool is_left;    /* whether nothing more is said to it, so that its session ends */
 };
 
-/* Reads where the readers are from a file, if one is named: each one that isn't kept joins those that are, at its address and this rate. Ends the program
+/* Reads where the readers are from the store, if one is named: each one that isn't kept joins those that are, at its address and this rate. Ends the program
  * where two would be at one address. Gives the address at which the reader is. */
-void read_places(const char *path);
+void read_places(const struct kept_words *words);
 uint32_t join_reader(uint32_t name, uint32_t rate);
+
+/* Keeps each reader that joined, in the store, if one is named. */
+void make_places(void);
 
 /* Ends the program where the port, which is open now, hasn't the rate of one of their places. */
 void demand_rates(void);
 
-/* Writes where they are to that file. Whether that was done. */
+/* Writes where they are to the store. Whether that was done. */
 bool keep_places(void);
 
 /* The reader of this number, from 0; NULL where there is none. */

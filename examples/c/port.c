@@ -24,8 +24,9 @@ static const struct {
 
 enum { RATES = sizeof speeds / sizeof speeds[0] };
 #define OUT_SLACK 10 /* milliseconds that an adapter may take until it begins to send */
-#define LATE 5000    /* milliseconds after which no panel waits for an answer any more */
+#define FULL 5000    /* milliseconds after which a port that takes nothing has failed */
 
+static uint32_t late = 5000; /* how late the program may be, in milliseconds */
 static uint64_t gone_out;   /* when the last burst that was written has gone out */
 static uint32_t port_rate;  /* the rate at which it goes */
 static bool refuses[RATES]; /* which of these rates the port hasn't, as was tried when it was opened */
@@ -39,6 +40,21 @@ uint64_t moment(void)
 #endif
         clock_gettime(CLOCK_MONOTONIC, &now);
     return (uint64_t)now.tv_sec * 1000 + (uint64_t)now.tv_nsec / 1000000;
+}
+
+void set_late(uint32_t milliseconds)
+{
+    late = milliseconds;
+}
+
+uint32_t late_by(void)
+{
+    return late;
+}
+
+bool is_too_late(uint64_t since)
+{
+    return moment() - since > late;
 }
 
 /* The speed of a rate; B0 where the port hasn't it. */
@@ -215,13 +231,16 @@ int open_port(const char *path, uint32_t rate)
     return port;
 }
 
-void write_all(int port, const struct osdp_burst *burst)
+bool write_all(int port, const struct osdp_burst *burst, uint64_t since)
 {
     size_t at = 0;
     uint64_t began = moment();
+    if (burst->length > 0 && is_too_late(since)) {
+        return false;
+    }
     while (at < burst->length) {
         ssize_t count = write(port, burst->bytes + at, burst->length - at);
-        if (count < 0 && errno == EAGAIN && moment() - began <= LATE) {
+        if (count < 0 && errno == EAGAIN && moment() - began <= FULL) {
             (void)wait_for(&(struct pollfd){ port, POLLOUT, 0 }, 1, 1000); /* what was written before has not gone out yet */
         } else if (count < 0 && errno != EINTR) {
             (void)tcflush(port, TCOFLUSH); /* what has not gone out by now is too old */
@@ -233,6 +252,7 @@ void write_all(int port, const struct osdp_burst *burst)
         gone_out = (began > gone_out ? began : gone_out) + 10000u * burst->length / port_rate + OUT_SLACK; /* a byte has ten bits */
         trace_sent(burst->bytes, burst->length);
     }
+    return true;
 }
 
 /* Takes a piece of standard input to what is held of it, with a place left for the end of the last line. A line that doesn't fit is dropped. */
@@ -256,12 +276,12 @@ static void read_lines(struct lines *lines)
     }
 }
 
-static bool is_late;  /* whether the last read ended long after it was to end */
-static bool hears_all; /* whether bytes are read that have waited for so long */
+static bool stood_still; /* whether the program did when the last read ended */
+static bool hears_all;   /* whether bytes are read that have waited for so long */
 
 bool was_stopped(void)
 {
-    return is_late;
+    return stood_still;
 }
 
 void hear_all(void)
@@ -269,37 +289,68 @@ void hear_all(void)
     hears_all = true;
 }
 
-/* Waits for a read, and drops what has come where that has waited for too long: an order of long ago, which its panel has given up, isn't done. */
-static int wait_to_read(struct pollfd *ready, uint64_t wait)
+/* The program stood still: what has come is dropped, and none of it is read. An order of long ago, which its panel has given up, isn't done. */
+static void drop_all(int port)
+{
+    stood_still = true;
+    if (!hears_all) {
+        (void)tcflush(port, TCIFLUSH);
+    }
+}
+
+/* Waits for a read, and takes the moment after it. What takes too long is either the turn since the last wait, or this wait. */
+static int wait_to_read(struct pollfd *ready, uint64_t wait, uint64_t *now)
 {
     static uint64_t last; /* when the last wait ended */
-    uint64_t began = last != 0 ? last : moment();
+    uint64_t began = moment();
+    last = last != 0 ? last : began;
     int found = wait_for(ready, 2, wait);
-    last = moment();
-    is_late = last - began > wait + LATE;
-    if (is_late && !hears_all) {
-        (void)tcflush(ready[0].fd, TCIFLUSH);
+    *now = moment();
+    stood_still = began - last > late || *now - last > wait + late;
+    last = *now;
+    if (stood_still) {
+        drop_all(ready[0].fd);
     }
     return found;
 }
 
-size_t read_port(int port, struct lines *lines, uint64_t wait, uint8_t *bytes, size_t room)
+/* Reads all bytes that are there, and for which there is room: none where another program has taken them away, or they were too old. */
+static size_t read_all(int port, uint8_t *bytes, size_t room)
+{
+    size_t length = 0;
+    while (length < room) {
+        ssize_t count = read(port, bytes + length, room - length);
+        if (count < 0 && errno == EINTR) {
+            continue;
+        }
+        if ((count < 0 && errno == EAGAIN) || (count <= 0 && length > 0)) {
+            break;
+        }
+        if (count <= 0) {
+            fail("the port can't be read");
+        }
+        length += (size_t)count;
+    }
+    return length;
+}
+
+size_t read_port(int port, struct lines *lines, uint64_t wait, uint8_t *bytes, size_t room, uint64_t *now)
 {
     struct pollfd ready[] = { { port, POLLIN, 0 }, { lines->ended ? -1 : STDIN_FILENO, POLLIN, 0 } };
-    ssize_t count = 0;
-    int found = wait_to_read(ready, wait < 60000 ? wait : 60000);
+    size_t count = 0;
+    int found = wait_to_read(ready, wait < 60000 ? wait : 60000, now);
     if (found > 0 && ready[1].revents != 0) {
         read_lines(lines);
     }
     if (found > 0 && ready[0].revents != 0) {
-        count = read(port, bytes, room);
-        if (count == 0 || (count < 0 && errno != EAGAIN && errno != EINTR)) {
-            fail("the port can't be read");
-        }
-        count = count > 0 ? count : 0; /* none where another program has taken them away, or they were too old */
+        count = read_all(port, bytes, room);
     }
-    trace_came(bytes, (size_t)count);
-    return (size_t)count;
+    if (is_too_late(*now)) { /* it stood still since the wait has ended: what was read may be of long ago too */
+        drop_all(port);
+        count = hears_all ? count : 0;
+    }
+    trace_came(bytes, count);
+    return count;
 }
 
 /* Whether all bytes are printable ASCII. */

@@ -14,6 +14,11 @@ struct lines {
 /* Milliseconds of a clock that never goes backwards, and goes on while the computer sleeps. */
 uint64_t moment(void);
 
+/* How late the program may be, in milliseconds; 5000 at first. And whether more than that has passed since a moment. */
+void set_late(uint32_t milliseconds);
+uint32_t late_by(void);
+bool is_too_late(uint64_t since);
+
 /* Opens a port, which no other program may open then; ends the program where it can't, or where another program has it. At Ctrl-C, and where its
  * terminal is closed, the program ends. */
 int open_port(const char *path, uint32_t rate);
@@ -31,14 +36,18 @@ bool set_rate(int port, uint32_t rate);
 /* Sets a rate that the port has; ends the program where it can't be set. */
 void demand_rate(int port, uint32_t rate);
 
-/* Writes a burst whole. Ends the program where the port takes nothing for five seconds: what it holds is too old then, and is dropped. */
-void write_all(int port, const struct osdp_burst *burst);
+/* Writes a burst whole, if not too much has passed since a moment: that for which it was made, or that at which what it orders was given. Whether it was written:
+ * one that wasn't is lost on the line for whoever made it. Ends the program where the port takes nothing for five seconds: what it holds is too old then, and is
+ * dropped. */
+bool write_all(int port, const struct osdp_burst *burst, uint64_t since);
 
-/* Waits so many milliseconds at most for bytes and lines. How many bytes came from the port: none where another program has taken them away. */
-size_t read_port(int port, struct lines *lines, uint64_t wait, uint8_t *bytes, size_t room);
+/* Waits so many milliseconds at most for bytes and lines, takes the moment, and then reads all that is there. So nothing of it came before the wait, as far as the
+ * program didn't stand still. How many bytes came from the port: none where another program has taken them away. */
+size_t read_port(int port, struct lines *lines, uint64_t wait, uint8_t *bytes, size_t room, uint64_t *now);
 
-/* Whether the last read ended more than five seconds after it was to end: the program was stopped, or the computer has slept. The bytes that had come by then
- * are dropped, as a line may lose them. A panel lets its open sessions end, since an order or a card of before would be done now. */
+/* Whether the program stood still for longer than it may be late, by the last read: it was stopped, or the computer has slept, or what it did before the read took so
+ * long. The bytes that had come by then are dropped, as a line may lose them. A panel lets its open sessions end, since an order or a card of before would be done
+ * now. */
 bool was_stopped(void);
 
 /* From now on such bytes are read too: for a program that only listens. */

@@ -12,7 +12,7 @@
 #define OUTPUTS 8
 
 static const char usage[] =
-    "reader [--trace FILE] [--keep FILE] PORT RATE [SETTING VALUE]..\n"
+    "reader [--trace FILE] [--keep FILE [--new]] [--late MS] PORT RATE [SETTING VALUE]..\n"
     "\n"
     "Each line of standard input is a call: `event KEYPAD 0 31`, `busy on`, `inputs 0100`, `readers 00`, `local 0 0`.\n"
     "`inputs` alone tells the panel nothing; `event ISTATR 0100` does.\n"
@@ -20,12 +20,13 @@ static const char usage[] =
     "once: an OUT is done here. `refused` and a command was answered by a NAK: nothing of it is done. `again` and a command\n"
     "came with number 0, and may come once more: nothing of it is done here. A panel of osdp sends nothing but ID with it.\n"
     "`moved` is a new address and rate. A COMSET to a rate that the port hasn't is told `refused` and `no rate`: it isn't\n"
-    "answered, and the reader begins anew where it was. The file of `--keep` keeps them, before the panel is told, and a reader that starts\n"
-    "again is there, whatever its words say. Without such a file it is where its words say, and the panel doesn't find it.\n"
-    "`not kept` tells that the file couldn't be written.\n"
+    "answered, and the reader begins anew where it was. The store of `--keep` keeps them, before the panel is told, and a\n"
+    "reader that starts again is there, whatever its words say. `--new` makes the store, where there is none. Without a store\n"
+    "the reader is where its words say, and the panel doesn't find it. `not kept` tells that the store couldn't be written.\n"
     "`offline` and `online` tell that the panel went and came. Events that have waited for more than 10 s while it was gone\n"
-    "leave: `withdrawn`, or `in doubt` where the panel may have the event. A card, or keys, that came while the program was\n"
-    "stopped for more than five seconds is told `too old`, and to no panel.\n"
+    "leave: `withdrawn`, or `in doubt` where the panel may have the event. Where the program was stopped for more than\n"
+    "`--late`, 100 to 60000 milliseconds, and 5000 where it isn't named, no order is done that came meanwhile. A card, or\n"
+    "keys, that came then is told `too old`, and to no panel. An answer that is so late isn't sent.\n"
     "The reader has eight outputs, which an OUT switches; the time of an output is counted here.\n"
     "The file of `--trace` gets each burst, both ways, as `osdp show` reads it.\n"
     "\n"
@@ -43,7 +44,7 @@ struct output {
 static struct reader_settings settings = { .config = { .capacity = 64, .gap = 20 } }; /* the address is where the reader is */
 static struct osdp_device reader;
 static int port;
-static const char *kept; /* the file that keeps address and rate, if one is named */
+static struct kept_words kept; /* the store that keeps address and rate, if one is named */
 static struct output outputs[OUTPUTS];
 
 /* Tells the reader which outputs are on, by which it answers OSTAT. */
@@ -118,7 +119,7 @@ static void act(const struct osdp_answer *answer, uint64_t now)
     if (answer->order == OSDP_ORDER_ONCE && answer->command.code == OSDP_OUT) {
         switch_outputs(&answer->command, now);
     }
-    send_answer(port, kept, &settings.config, answer);
+    send_answer(port, &settings.config, answer, now);
     if (answer->moved) {
         tell("moved %u %u\n", (unsigned)answer->address, (unsigned)answer->baud_rate);
     }
@@ -197,8 +198,8 @@ static void turn(struct lines *lines)
 {
     static struct osdp_answer answer;
     uint8_t bytes[4096];
-    size_t count = read_port(port, lines, TURN, bytes, sizeof bytes);
-    uint64_t now = moment(); /* after the read: not before it */
+    uint64_t now; /* of the wait's end, before what is there was read */
+    size_t count = read_port(port, lines, TURN, bytes, sizeof bytes, &now);
     (void)osdp_device_set_moment(&reader, now); /* also where the program was stopped for more than a day */
     look(now); /* before anything is heard: so a panel that is back gets no card of long ago */
     tell_outputs(now);
@@ -219,7 +220,7 @@ int main(int count, char **words)
         set_reader(&settings, words[i], words[i + 1]);
     }
     uint32_t rate = number(words[1], "rate");
-    (void)read_kept(kept, &settings.config.address, &rate);
+    read_kept(&kept, &settings.config.address, &rate);
     make_reader();
     port = open_port(words[0], rate);
     for (;;) {

@@ -6,6 +6,7 @@
 
 #include "places.h"
 #include "port.h"
+#include "store.h"
 #include "words.h"
 
 #define MOST_PAUSE 64000 /* between two searches; it doubles up to this while none is found */
@@ -111,7 +112,7 @@ static bool fetch(struct known *reader)
     struct place to = back != NULL ? *back : (struct place){ there.address, home };
     stands_at(reader->stand, there);
     if (!comset_goes(reader, to)) {
-        tell("not kept\n");
+        tell("not kept: %s\n", store_fault());
         comset_over(reader);
         return false;
     }

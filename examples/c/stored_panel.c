@@ -1,28 +1,45 @@
-/* A panel that stores its orders and its reports: `stored_panel JOURNAL PORT RATE`. The door is the device at address 5, which two cards open.
+/* A panel that stores its orders and its reports: `stored_panel [--new] [--retain N] STORE PORT RATE`. The door is the device at address 5, or where STORE has it, which two
+ * cards open. `--new` makes STORE. It keeps N ended orders and N handled events, 1000 if not said, beside all others.
  *
- * Each line is an order, such as `OUT 1:2:0`. It is stored in the file JOURNAL before it is given, and each report before it is acted on. So the program may be
- * ended at any moment, also by a loss of power: when it starts again it tells which orders are in doubt, makes no second order for a card, and acts on no order twice. */
-#include <inttypes.h>
+ * Each line is an order, such as `OUT 1:2:0`. It is stored before it is given, and each report before it is acted on, both in the transaction of their turn, which ends before
+ * the packet of that turn goes out. So the program may be ended at any moment, also by a loss of power: when it starts again it tells which orders are in doubt, makes no
+ * second order for a card, and acts on no order twice. `again:` stands before what it tells then, and may have told already. After a COMSET it looks for the door at both
+ * places. Another device in the door's place gets no order.
+ *
+ * No order goes out that was given longer ago than the program may be late, however long the disk takes: it is in doubt then. Where STORE can't be written the program ends
+ * with status 3, and nothing of that turn has happened. */
 #include <stdio.h>
 #include <string.h>
 
-#include "journal.h"
+#include "kept.h"
+#include "ledger.h"
 #include "port.h"
+#include "store.h"
 #include "words.h"
 
+#define NAME 5     /* the address at which the door was first: the store names it so */
 #define PAUSE 1000 /* from a session that was lost to the next one, in milliseconds */
 #define NEVER UINT64_MAX
 #define ORDERS 16 /* how many orders may wait */
 #define GIVEN (ORDERS + 2)
+#define STANDS 64
 
 static osdp_panel panel;
 static osdp_size entry;
-static uint64_t given[GIVEN]; /* the numbers of the orders that the panel has, the first one first, and 0 for each question after the state */
+static int port;
+static struct stand stands[STANDS], *door;
+static size_t stand_count;
+/* What the panel has, the first one first: an order by its number, or a question after the state by 0, and when it was given. */
+static struct {
+    uint64_t number, since;
+} given[GIVEN];
 static size_t given_count;
-static uint64_t begins;      /* the moment at which the next session begins; NEVER while one goes on */
-static bool is_new = true;   /* since the start no event was reported */
-static bool is_asked;        /* whether the device is to be asked for its state, since an order is in doubt */
-static bool is_left;         /* whether nothing more is said to the device, so that its session ends */
+static uint64_t begins;         /* the moment at which the next session begins; NEVER while one goes on */
+static bool is_new = true;      /* since the start no event was reported */
+static bool is_left;            /* whether nothing more is said to the device, so that its session ends */
+static bool is_other;           /* whether another device than the door has answered last: */
+static struct osdp_pd_id other; /* what that is, */
+static struct place there;      /* and where it stands */
 
 /* Whether a card opens the door: two cards of 26 bits do. */
 static bool may_enter(const struct osdp_raw *card)
@@ -31,86 +48,190 @@ static bool may_enter(const struct osdp_raw *card)
     return card->bits == 26 && (memcmp(card->bytes, cards[0], 4) == 0 || memcmp(card->bytes, cards[1], 4) == 0);
 }
 
-/* Gives an order, once it is stored. */
-static void order(const char *text)
+/* An order, or a card, of before would open the door now. So the session is left until it is lost: what isn't written the line has lost. */
+static void leave(void)
 {
-    uint64_t number = note_order(text);
+    is_left = is_left || begins == NEVER;
+}
+
+/* The door is here, and nowhere else. */
+static void stand_at(struct place place)
+{
+    stands_at(door, place);
+    demand_store(write_stand(door));
+}
+
+/* Notes what the panel has taken. */
+static void add_given(uint64_t number, uint64_t now)
+{
+    given[given_count].number = number;
+    given[given_count++].since = now;
+}
+
+/* Gives an order, which is stored with the turn. Whether the panel has taken it. */
+static bool order(const char *text, uint64_t now)
+{
+    uint64_t number = note_order(text, late_by());
     osdp_status status = osdp_panel_submit_text(&panel, entry, text, strlen(text));
-    if (status == OSDP_OK) {
-        given[given_count++] = number;
-        tell("order %" PRIu64 " %s\n", number, text);
-    } else {
-        char how[200];
-        (void)snprintf(how, sizeof how, "refused (%s)", osdp_status_text(status));
-        note_end(number, how);
+    if (status != OSDP_OK) {
+        note_end(number, "refused", osdp_status_text(status));
+        return false;
     }
+    add_given(number, now);
+    say("order %llu %s\n", (unsigned long long)number, text);
+    return true;
 }
 
-/* The first order that the panel has is over, or the question after the state, whose answer is told. */
-static void ended(const char *how, const struct osdp_message *reply)
+/* Gives a COMSET. Where it leads is stored with it, before it goes out. Whether it was one that may be given. */
+static bool move(const char *text, uint64_t now)
 {
-    uint64_t number = given[0];
+    unsigned address, rate;
+    char more;
+    if (sscanf(text, "COMSET %3u %10u%c", &address, &rate, &more) != 2 || door->count > 1 || begins != NEVER || is_left || !has_rate(rate)
+        || is_taken(stands, stand_count, door, address)) {
+        return false;
+    }
+    if (order(text, now)) {
+        may_move(door, (struct place){ address, rate });
+        demand_store(write_stand(door));
+    }
+    return true;
+}
+
+/* The first thing that the panel has is over: an order, which is settled so, or in doubt where there is no answer, or the question after the state. */
+static void ended(const char *state, const char *answer)
+{
+    uint64_t number = given[0].number;
     memmove(given, given + 1, --given_count * sizeof given[0]);
-    if (number != 0) {
-        is_asked = is_asked || strcmp(how, "doubt") == 0;
-        note_end(number, how);
-    } else if (reply != NULL) {
-        tell("state %s\n", reply_text(reply));
-    }
-}
-
-static void settled(const struct osdp_report *report)
-{
-    static char how[6200];
-    (void)snprintf(how, sizeof how, "settled %s", reply_text(&report->reply));
-    ended(how, &report->reply);
-}
-
-/* An answer can't be read. What became of an order that it answers nobody knows; there is none where it answers a POLL. */
-static void unread(const struct osdp_report *report)
-{
-    tell("unread code %02X\n", (unsigned)report->detail);
-    if (report->command.present) {
-        ended("doubt", NULL);
+    if (number == 0 && answer != NULL) {
+        say("state %s\n", answer);
+        heard_all();
+    } else if (number != 0 && state == NULL) {
+        doubt(number);
+    } else if (number != 0) {
+        note_end(number, state, answer);
     }
 }
 
 /* A session has ended. Orders of long ago open no door: those that wait are taken back. */
-static void lost(const struct osdp_report *report, uint64_t now)
+static void close_session(uint64_t until)
 {
     static struct osdp_message command;
-    if (report->command.present) {
-        is_asked = is_asked || given[0] == 0; /* a question that is lost is asked again */
-        ended("doubt", NULL);
-    }
     while (osdp_panel_withdraw(&panel, entry, &command) == OSDP_OK && command.present) {
         ended("back", NULL);
+        if (command.code == OSDP_COMSET) {
+            stand_at(place_of(door));
+        }
     }
-    begins = now + PAUSE;
+    begins = until;
     is_left = false;
 }
 
 /* Asks for the state of the outputs, before anybody gives an order in doubt again. It may be asked twice, so it isn't stored. */
-static void ask(void)
+static void ask(uint64_t now)
 {
-    if (is_asked && osdp_panel_submit_text(&panel, entry, "OSTAT", 5) == OSDP_OK) {
-        given[given_count++] = 0;
-        is_asked = false;
+    bool asks = false;
+    for (size_t i = 0; i < given_count; i++) {
+        asks = asks || given[i].number == 0;
+    }
+    if (any_doubt() && !asks && osdp_panel_submit_text(&panel, entry, "OSTAT", 5) == OSDP_OK) {
+        add_given(0, now);
+    }
+}
+
+/* Another device than the door gets no order: its session is let end, and the door is looked for at its next place. */
+static void opened(const struct osdp_report *report, uint64_t now)
+{
+    struct osdp_pd_id id = { 0 };
+    struct place place = place_of(door);
+    (void)osdp_pd_id_of(&report->reply, &id);
+    if (is_same(door, &id)) {
+        door->is_known = true;
+        door->id = id;
+        is_other = false;
+        stand_at(place);
+        say("opened %s\n", reply_text(&report->reply));
+        ask(now);
+        return;
+    }
+    if (!is_other || !is_same_device(&other, &id) || !is_same_place(there, place)) {
+        say("another device at %u: it gets no order\n", (unsigned)place.address);
+    }
+    other = id;
+    there = place;
+    is_other = is_left = true;
+}
+
+static void settled(const struct osdp_report *report)
+{
+    ended("settled", reply_text(&report->reply));
+    if (report->command.code == OSDP_COMSET && report->reply.code == OSDP_NAK) {
+        stand_at(place_of(door));
+    } else if (report->command.code == OSDP_COMSET) {
+        leave(); /* after another answer it is at either place */
+    }
+}
+
+/* The door has moved to where its COM says. Where the port hasn't that rate, the door is taken to have kept its own. */
+static void moved(const struct osdp_report *report, uint64_t now)
+{
+    struct osdp_communication com = { 0 };
+    (void)osdp_com_of(&report->reply, &com); /* what moved a device is a COM */
+    ended("settled", reply_text(&report->reply));
+    if (!has_rate(com.baud_rate)) {
+        say("no rate %u\n", (unsigned)com.baud_rate);
+        com.baud_rate = place_of(door).rate;
+    }
+    stand_at((struct place){ com.address, com.baud_rate });
+    close_session(now);
+}
+
+/* An answer can't be read. What became of an order that it answers nobody knows; there is none where it answers a POLL. */
+static void unread(const struct osdp_report *report, uint64_t now)
+{
+    say("unread code %02X\n", (unsigned)report->detail);
+    if (report->command.present) {
+        ended(NULL, NULL);
+    }
+    if (report->command.present && report->command.code == OSDP_COMSET) {
+        leave();
+    } else {
+        ask(now);
     }
 }
 
 /* Stores an event, and opens the door for a card. One that may have been reported before makes no second order: the panel has marked it, or it is the first one since
  * this program has started, and the last one that is stored. */
-static void take_event(const struct osdp_report *report)
+static void take_event(const struct osdp_report *report, uint64_t now)
 {
     static struct osdp_raw card;
     const char *text = reply_text(&report->reply);
     bool is_again = report->detail == OSDP_EVENT_MAYBE_AGAIN || (is_new && is_last_event(text));
     is_new = false;
-    note_event(text);
-    tell("%s %s\n", is_again ? "maybe again" : "event", text);
+    note_event(text, is_again);
+    say("%s %s\n", is_again ? "maybe again" : "event", text);
     if (!is_again && !is_left && osdp_raw_of(&report->reply, &card) == OSDP_OK && may_enter(&card)) {
-        order("OUT 0:5:30"); /* output 0, on for three seconds */
+        (void)order("OUT 0:5:30", now); /* output 0, on for three seconds */
+    }
+}
+
+static void take_report(const struct osdp_report *report, uint64_t now)
+{
+    if (report->kind == OSDP_REPORT_OPENED) {
+        opened(report, now);
+    } else if (report->kind == OSDP_REPORT_SETTLED) {
+        settled(report);
+    } else if (report->kind == OSDP_REPORT_MOVED) {
+        moved(report, now);
+    } else if (report->kind == OSDP_REPORT_UNREAD) {
+        unread(report, now);
+    } else if (report->kind == OSDP_REPORT_EVENT) {
+        take_event(report, now);
+    } else if (report->kind == OSDP_REPORT_LOST) {
+        if (report->command.present) {
+            ended(NULL, NULL);
+        }
+        close_session(now + PAUSE);
     }
 }
 
@@ -118,37 +239,39 @@ static void take_reports(uint64_t now)
 {
     static struct osdp_report report;
     while (osdp_panel_next_report(&panel, &report) == OSDP_OK && report.kind != OSDP_REPORT_NONE) {
-        if (report.kind == OSDP_REPORT_SETTLED) {
-            settled(&report);
-        } else if (report.kind == OSDP_REPORT_UNREAD) {
-            unread(&report);
-        } else if (report.kind == OSDP_REPORT_EVENT) {
-            take_event(&report);
-        } else if (report.kind == OSDP_REPORT_LOST || report.kind == OSDP_REPORT_MOVED) {
-            lost(&report, now);
-        } else {
-            tell_report(&report);
-        }
-        if (report.kind == OSDP_REPORT_OPENED || report.kind == OSDP_REPORT_UNREAD) {
-            ask();
-        }
+        take_report(&report, now);
     }
 }
 
-/* Takes a line as an order. The place of the device stays, so a COMSET is none. */
-static void take_line(const char *line)
+/* Whether a text is that of a command of this name. */
+static bool is_command(const char *text, const char *name)
 {
-    if (line[0] == '\0' || strncmp(line, "COMSET", 6) == 0 || strncmp(line, "OSTAT", 5) == 0) {
-        tell("refused line\n");
-    } else {
-        order(line);
+    size_t length = strlen(name);
+    return strncmp(text, name, length) == 0 && (text[length] == '\0' || text[length] == ' ');
+}
+
+/* Takes a line as an order. */
+static void take_line(const char *line, uint64_t now)
+{
+    line += strspn(line, " ");
+    if (was_stopped()) {
+        say("too old %s\n", line); /* it may be of long ago */
+    } else if (line[0] == '\0' || is_command(line, "OSTAT") || (is_command(line, "COMSET") && !move(line, now))) {
+        say("refused line\n");
+    } else if (!is_command(line, "COMSET")) {
+        (void)order(line, now);
     }
 }
 
-/* Begins the next session once it is due. */
+/* Begins the next session once it is due, at each place in turn. */
 static void begin(uint64_t now)
 {
-    if (begins <= now && osdp_panel_begin(&panel, entry, now) == OSDP_OK) {
+    if (begins <= now) {
+        struct place place = door->places[0];
+        try_place(door, place);
+        demand_rate(port, place.rate);
+        (void)osdp_panel_retarget(&panel, entry, place.address);
+        (void)osdp_panel_begin(&panel, entry, now);
         begins = NEVER;
     }
 }
@@ -162,24 +285,36 @@ static uint64_t wait_for(uint64_t now)
     return until == NEVER ? NEVER : until > now ? until - now : 0;
 }
 
-static void turn(int port, struct lines *lines)
+/* Writes what the panel says, if it isn't late: the disk may take long. Else the session is let end: an order would go out late, now or once more. */
+static void write_burst(const struct osdp_burst *burst, uint64_t now)
+{
+    bool is_order = burst->length > 0 && burst->bytes[5] != OSDP_POLL && burst->bytes[5] != OSDP_ID && given_count > 0;
+    uint64_t since = is_order && given[0].since < now ? given[0].since : now;
+    is_left = is_left || !write_all(port, burst, since);
+}
+
+static void turn(struct lines *lines)
 {
     static uint8_t bytes[4096];
     static struct osdp_burst burst;
-    size_t length = read_port(port, lines, wait_for(moment()), bytes, sizeof bytes);
-    uint64_t now = moment(); /* after the read: not before it */
-    is_left = is_left || (was_stopped() && begins == NEVER); /* a card, or an order, of before would open the door now */
+    uint64_t now; /* of the wait's end, before what is there was read */
+    size_t length = read_port(port, lines, wait_for(moment()), bytes, sizeof bytes, &now);
+    begin_turn();
+    if (was_stopped()) {
+        leave(); /* a card, or an order, of before would open the door now */
+    }
     (void)osdp_panel_set_moment(&panel, now); /* also where the program was stopped for more than a day */
     (void)osdp_panel_bytes(&panel, bytes, length, now);
     take_reports(now);
     for (const char *line = next_line(lines); line != NULL; line = next_line(lines)) {
-        take_line(line);
+        take_line(line, now);
     }
     begin(now);
     (void)osdp_panel_tick(&panel, now, &burst);
-    take_reports(now); /* before the packet goes out: by that the device may forget an event */
+    take_reports(now);
+    end_turn(); /* before the packet goes out: by that the device may forget an event */
     if (!is_left) {
-        write_all(port, &burst);
+        write_burst(&burst, now);
     }
 }
 
@@ -187,23 +322,24 @@ int main(int count, char **words)
 {
     static struct lines lines;
     struct osdp_panel_config config;
-    words = take_just(count, words, 3, "stored_panel JOURNAL PORT RATE\n", NULL);
+    struct kept_words kept = { .is_word = true };
+    words = take_just(count, words, 3, "stored_panel [--new] [--retain N] [--late MS] STORE PORT RATE\n", &kept);
     uint32_t rate = number(words[2], "rate");
+    kept.path = words[0];
     osdp_panel_defaults(&config);
     config.capacity = ORDERS;
-    config.poll_between_orders = 1; /* a card waits for no orders */
+    stand_count = read_stands(&kept, stands, STANDS);
+    door = stand_of(stands, &stand_count, STANDS, NAME, rate);
+    demand_store(keep_stands(stands, stand_count));
     osdp_status status = osdp_panel_new(&panel, &config);
-    status = status == OSDP_OK ? osdp_panel_add(&panel, 5, &entry) : status;
+    status = status == OSDP_OK ? osdp_panel_add(&panel, place_of(door).address, &entry) : status;
     if (status != OSDP_OK) {
         stop(OUT_OF_MEMORY, "%s", osdp_status_text(status));
     }
-    int port = open_port(words[1], rate);
-    open_journal(words[0]);
-    while (first_order() != 0) { /* it waited, was on its way, or was done: nobody knows */
-        is_asked = true;
-        note_end(first_order(), "doubt");
-    }
+    port = open_port(words[1], rate);
+    open_ledger(NAME, kept.retain);
+    end_turn();
     for (;;) {
-        turn(port, &lines);
+        turn(&lines);
     }
 }

@@ -17,7 +17,6 @@ static const struct {
 static osdp_panel panel;
 static osdp_site site;
 static struct osdp_site_entry entries[DOORS];
-static bool left[DOORS]; /* whether nothing more is said to a reader, so that its session ends: it may hold an order or a card from before the program was stopped */
 static uint64_t held[DOORS]; /* when a door is held open; UINT64_MAX while it is closed, and UINT64_MAX - 1 once its buzzer sounds */
 
 static bool may_enter(const struct osdp_raw *card, size_t door)
@@ -58,31 +57,30 @@ static void take_contact(size_t door, bool open, uint64_t now)
     }
 }
 
-static void take_report(const struct osdp_report *report, bool has_changed, uint64_t now)
+static void take_report(void *of, const struct osdp_report *report, bool has_changed, uint64_t now)
 {
     static struct osdp_raw card;
+    (void)of; /* the one site of this program */
     static struct osdp_states inputs;
+    static struct osdp_message stale;
     static const struct osdp_message asks = { .present = 1, .code = OSDP_ISTAT };
     size_t door = (size_t)report->entry;
-    left[door] = left[door] && report->kind != OSDP_REPORT_LOST;
     if (has_changed) {
         tell("door %zu is %s\n", door + 1, entries[door].is_online ? "online" : "offline");
         (void)osdp_site_order(&site, &panel, door, &asks);
+    }
+    if (report->kind == OSDP_REPORT_LOST && report->command.present) {
+        tell_report(report); /* the order that was under way: it may have been done or not */
+    }
+    while (report->kind == OSDP_REPORT_LOST && osdp_panel_withdraw(&panel, door, &stale) == OSDP_OK && stale.present) {
+        tell("withdrawn %zu %s\n", door + 1, command_text(&stale));
     }
     if (osdp_inputs_of(&report->reply, &inputs) == OSDP_OK && inputs.length > 0) {
         take_contact(door, inputs.states[0] == OSDP_STATE_ACTIVE, now);
     }
     /* a card that may have been told before unlocks nothing again */
-    if (report->kind == OSDP_REPORT_EVENT && report->detail != OSDP_EVENT_MAYBE_AGAIN && !left[door] && osdp_raw_of(&report->reply, &card) == OSDP_OK && may_enter(&card, door)) {
+    if (report->kind == OSDP_REPORT_EVENT && report->detail != OSDP_EVENT_MAYBE_AGAIN && osdp_raw_of(&report->reply, &card) == OSDP_OK && may_enter(&card, door)) {
         unlock(door);
-    }
-}
-
-/* Leaves the sessions that are open. */
-static void leave(void)
-{
-    for (size_t door = 0; door < DOORS; door++) {
-        left[door] = entries[door].is_online;
     }
 }
 
@@ -103,7 +101,6 @@ static osdp_status make(uint64_t now)
     static struct osdp_message red;
     struct osdp_panel_config config;
     osdp_panel_defaults(&config);
-    config.poll_between_orders = 1; /* a card waits for no orders */
     osdp_status status = osdp_panel_new(&panel, &config);
     osdp_site_new(&site, entries, DOORS, OSDP_SITE_ANY_LENGTH, now);
     osdp_color(OSDP_COLOR_RED, &red);
@@ -121,22 +118,22 @@ int main(int count, char **words)
     static struct lines lines;
     static struct osdp_burst burst;
     uint8_t bytes[4096];
-    words = take_just(count, words, 2, "three_doors PORT RATE\n", NULL);
+    words = take_just(count, words, 2, "three_doors [--late MS] PORT RATE\n", NULL);
     osdp_status status = make(moment());
     if (status != OSDP_OK) {
         stop(OUT_OF_MEMORY, "%s", osdp_status_text(status));
     }
     int port = open_port(words[0], number(words[1], "rate"));
     for (;;) {
-        size_t length = read_port(port, &lines, osdp_site_wait(&site, &panel, moment(), 100), bytes, sizeof bytes);
-        uint64_t now = moment(); /* after the read: not before it */
+        uint64_t now, wait = osdp_site_wait(&site, &panel, moment(), 100);
+        size_t length = read_port(port, &lines, wait, bytes, sizeof bytes, &now);
         watch(now);
         if (was_stopped()) {
-            leave();
+            osdp_site_leave(&site); /* a card, or an order, of before would open a door now */
         }
-        osdp_site_turn(&site, &panel, bytes, length, now, take_report, &burst);
-        if (burst.length > 0 && !left[burst.bytes[1] - 1]) { /* the readers have the addresses 1 to 3 */
-            write_all(port, &burst);
+        osdp_site_turn(&site, &panel, bytes, length, now, take_report, NULL, &burst);
+        if (!write_all(port, &burst, now)) {
+            osdp_site_leave(&site); /* it is late: an order would go out late */
         }
     }
 }

@@ -1,6 +1,7 @@
 /* The trace of what goes over a port. */
 #define _DEFAULT_SOURCE
 #include <errno.h>
+#include <fcntl.h>
 #include <stdio.h>
 #include <stdlib.h>
 #include <string.h>
@@ -47,7 +48,8 @@ static void flush(void)
 
 void open_trace(const char *path)
 {
-    file = fopen(path, "a");
+    int trace = open(path, O_WRONLY | O_CREAT | O_APPEND | O_CLOEXEC, 0600); /* it has cards: only its owner may read it */
+    file = trace >= 0 ? fdopen(trace, "a") : NULL;
     if (file == NULL) {
         stop(FAILED, "the trace can't be opened: %s", strerror(errno));
     }

@@ -44,7 +44,43 @@ static void fill_streams(void)
     }
 }
 
-char **take_words(int *count, char **words, int least, const char *usage, const char **kept)
+/* How late the program may be. */
+static void take_late(const char *word)
+{
+    uint32_t late = number(word, "--late");
+    if (late < 100 || late > 60000) {
+        stop(BAD_WORDS, "bad --late: %s isn't from 100 to 60000 milliseconds", word);
+    }
+    set_late(late);
+}
+
+/* Takes an option, of which `kept` has what a file keeps. How many words it has; 0 where it is none. */
+static int take_option(char **words, int count, const char **trace, struct kept_words *kept)
+{
+    if (kept != NULL && strcmp(words[0], "--new") == 0) {
+        kept->is_new = true;
+        return 1;
+    }
+    if (count > 1 && kept != NULL && kept->is_word && strcmp(words[0], "--retain") == 0) {
+        kept->retain = number(words[1], "--retain");
+        return 2;
+    }
+    if (count > 1 && strcmp(words[0], "--late") == 0) {
+        take_late(words[1]);
+        return 2;
+    }
+    if (count > 1 && strcmp(words[0], "--trace") == 0) {
+        *trace = words[1];
+        return 2;
+    }
+    if (count > 1 && kept != NULL && !kept->is_word && strcmp(words[0], "--keep") == 0) {
+        kept->path = words[1];
+        return 2;
+    }
+    return 0;
+}
+
+char **take_words(int *count, char **words, int least, const char *usage, struct kept_words *kept)
 {
     const char *trace = NULL;
     (void)signal(SIGPIPE, SIG_IGN);
@@ -55,10 +91,11 @@ char **take_words(int *count, char **words, int least, const char *usage, const 
         tell("%s", usage);
         exit(0);
     }
-    for (; *count > 1 && (strcmp(words[0], "--trace") == 0 || (kept != NULL && strcmp(words[0], "--keep") == 0)); *count -= 2, words += 2) {
-        *(strcmp(words[0], "--trace") == 0 ? &trace : kept) = words[1];
+    for (int taken = 1; *count > 0 && taken > 0; *count -= taken, words += taken) {
+        taken = take_option(words, *count, &trace, kept);
     }
-    if (*count < least || words[0][0] == '-' || (*count - least) % 2 != 0) {
+    bool is_bad = kept != NULL && kept->is_new && !kept->is_word && kept->path == NULL;
+    if (is_bad || *count < least || words[0][0] == '-' || (*count - least) % 2 != 0) {
         stop(BAD_WORDS, "bad words: --help tells the right ones");
     }
     if (trace != NULL) {
@@ -67,7 +104,7 @@ char **take_words(int *count, char **words, int least, const char *usage, const 
     return words;
 }
 
-char **take_just(int count, char **words, int many, const char *usage, const char **kept)
+char **take_just(int count, char **words, int many, const char *usage, struct kept_words *kept)
 {
     words = take_words(&count, words, many, usage, kept);
     if (count != many) {

@@ -2,6 +2,7 @@
 #ifndef WORDS_H
 #define WORDS_H
 
+#include "kept.h"
 #include "osdp.h"
 
 /* Status of a program: bad words; the port, the trace or standard output fails; out of memory. */
@@ -18,12 +19,13 @@ struct reader_settings {
 void set_panel(struct osdp_panel_config *config, const char *name, const char *value);
 void set_reader(struct reader_settings *settings, const char *name, const char *value);
 
-/* Opens the file of `--trace`, if it is named, and gives the other words, of which there are at least so many, and then pairs. `--help` prints the
- * usage. Ends the program where the words are others. `kept` gets the file of `--keep`, if that is named; it is NULL where there is no such option. */
-char **take_words(int *count, char **words, int least, const char *usage, const char **kept);
+/* Opens the file of `--trace`, if it is named, sets how late the program may be where `--late` says so, and gives the other words, of which there are at least so
+ * many, and then pairs. `--help` prints the usage. Ends the program where the words are others. `kept` gets what they say of the program's store; it is NULL for a program
+ * that has none. */
+char **take_words(int *count, char **words, int least, const char *usage, struct kept_words *kept);
 
 /* The same for a program without settings: there are just so many words. */
-char **take_just(int count, char **words, int many, const char *usage, const char **kept);
+char **take_just(int count, char **words, int many, const char *usage, struct kept_words *kept);
 
 /* The number that a word is; ends the program where it is none. */
 uint32_t number(const char *word, const char *what);

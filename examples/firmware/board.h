@@ -8,7 +8,7 @@
 /* How many milliseconds have passed since the start. */
 uint64_t board_moment(void);
 
-/* Takes the bytes that have come from the line, as many as there is room for. */
+/* Takes the bytes that have come from the line, as many as there is room for. A board holds 512 of them at most. */
 size_t board_read(uint8_t *bytes, size_t room);
 
 /* Sends bytes to the line, and returns once the last is handed over. */

@@ -49,8 +49,9 @@ static bool make_device(void)
 
 /* The device does what it is to do, and then what it says goes out: so an order that is answered was done. A new address is kept before the panel is told. A COMSET
  * to a rate that the line can't have isn't answered, and the device is made anew where it was: the panel finds it there. The keys that wait are gone then. */
-static void take_answer(const struct osdp_answer *answer, uint64_t now)
+static void take_answer(void *of, const struct osdp_answer *answer, uint64_t now)
 {
+    (void)of; /* the one device of this program */
     if (answer->moved && !board_has_rate(answer->baud_rate)) {
         (void)osdp_device_free(&device);
         (void)make_device(); /* the pool has the room that the one before has left */
@@ -100,7 +101,7 @@ static void let_go(uint64_t now)
 
 int main(void)
 {
-    static uint8_t bytes[256];
+    static uint8_t bytes[512]; /* as many as the board holds, so that a read takes all */
     uint32_t rate = RATE; /* of the line */
     (void)board_kept(&config.address, &rate);
     board_set_rate(rate);
@@ -110,14 +111,14 @@ int main(void)
     }
     switch_relay(false, UINT64_MAX);
     for (;;) {
-        size_t length = board_read(bytes, sizeof bytes);
-        uint64_t now = board_moment(); /* after the read: not before it */
+        board_sleep();
+        uint64_t now = board_moment(); /* after the wait, and before the read: what lies in the ring is no older than that says where an interrupt takes long */
+        size_t length = board_read(bytes, sizeof bytes); /* all that is there */
         let_go(now); /* before anything is heard, and before keys: an event that is put before any moment is never too old */
         take_keys();
         if (relay_ends <= now) {
             switch_relay(false, UINT64_MAX);
         }
-        osdp_device_turn(&device, bytes, length, now, take_answer);
-        board_sleep();
+        osdp_device_turn(&device, bytes, length, now, take_answer, NULL);
     }
 }

@@ -1,7 +1,8 @@
-"""What `osdp monitor` says of the scenarios of `test device`: where it accuses the device, that stands after the verdict on the scenario's rule.
+"""What `osdp monitor` says of the scenarios of `test device`: where it accuses the device.
 
-The scenarios are one capture, in their order: what was sent is a run, and what was heard of it another. The tester sends wrong packets on purpose, so what
-the monitor says of the panel's end isn't told. Rules of our profile alone are left out."""
+The scenarios are one capture, in their order: what was sent is a run, and what was heard of it another. The
+tester sends wrong packets on purpose, so what the monitor says of the panel's end isn't told. Rules of our
+profile alone are left out."""
 import re
 import subprocess
 
@@ -23,7 +24,13 @@ def captured(lines):
 def accused(osdp, address, lines):
     """For each rule in whose scenario the monitor accuses the device: the lines that say so."""
     runs, rules = captured(lines)
-    done = subprocess.run([*osdp, "monitor", "--standard"], input="".join(f"{run}\n" for run in runs), capture_output=True, text=True, check=False)
+    done = subprocess.run(
+        [*osdp, "monitor", "--standard"],
+        input="".join(f"{run}\n" for run in runs),
+        capture_output=True,
+        text=True,
+        check=False,
+    )
     said, rule = {}, None
     for line in done.stdout.splitlines():
         told = re.fullmatch(rf"(\d+):\d+ reader {address}: (.*)", line)
@@ -35,18 +42,3 @@ def accused(osdp, address, lines):
         else:
             rule = None
     return said
-
-
-class Beside:
-    """Puts what the monitor says among the lines of a report: after a rule's verdict, and what stands below it."""
-
-    def __init__(self, is_tap):
-        self.mark, self.said, self.waits = "# " if is_tap else "  ", {}, []
-
-    def lines(self, line):
-        """The lines of the report that go out with this one."""
-        if line.startswith(self.mark):
-            return [line]
-        verdict = re.match(r"(?:(?:not )?ok )?(\d+) ", line)
-        told, self.waits = self.waits, [self.mark + each for each in self.said.pop(int(verdict[1]), [])] if verdict else []
-        return [*told, line]

@@ -1,4 +1,5 @@
-"""What goes wrong on a panel's line, by what to do about it. Each sentence is told once for a device, until its session opens again."""
+"""What goes wrong on a panel's line, by what to do about it. Each sentence is told once for a device, until
+its session opens again."""
 from collections import deque
 
 OFTEN = 40  # so many packets to a device are looked at
@@ -14,6 +15,7 @@ class Advice:
         self.came_since = 0  # bytes since the last packet went out, without its echo
         self.has_come = {}  # bytes that came after the last new packet to each address and its repeats
         self.told = set()
+        self.reached = set()  # the devices whose sessions have opened since they were lost last
         self.last, self.address, self.echo = b"", None, 0
 
     def once(self, key, line):
@@ -42,13 +44,17 @@ class Advice:
             self.has_come[self.address] = self.has_come.get(self.address, 0) + len(read)
         repeats = self.repeats.get(self.address, ())
         if len(repeats) == OFTEN and sum(repeats) * 2 >= OFTEN - 2:
-            self.once((self.address, "late"), f"device {self.address} answers late: half of all packets are repeated; try reply-wait 400")
+            self.once(
+                (self.address, "late"),
+                f"device {self.address} answers late: half of all packets are repeated; try reply-wait 400",
+            )
 
     def heard(self, line):
         """A line of the panel was told."""
         words = line.split()
-        if words[0] == "opened":
+        if words[0] == "online":
             address = int(words[1])
+            self.reached.add(address)
             self.told -= {each for each in self.told if each[0] == address}
             self.has_come[address] = 0
         elif words[0] == "lost" and len(words) == 3 and self.port.is_there:
@@ -57,20 +63,64 @@ class Advice:
             self.is_refused(words[-2:], words[2] if words[0] == "passed" else words[1])
 
     def is_lost(self, address, cause):
-        find, show = (f"osdp-port {self.port.path} {self.port.rate} {command}" for command in ("find", "show"))
-        if cause == "no-reply" and not self.has_come.get(address):
-            self.once((address, "silent"), f"device {address} doesn't answer: its power, the two wires, its address, its rate, its check; {find}")
+        find, show = (
+            f"osdp-port {self.port.path} {self.port.rate} {command}" for command in ("find", "show")
+        )
+        if cause == "no-reply" and address in self.reached and not self.has_come.get(address):
+            self.once(
+                (address, "silent"),
+                (
+                    f"device {address} answered until now, and nothing comes any more: its power, or the two"
+                    f" wires; if it was set anew, {find}"
+                ),
+            )
+        elif cause == "no-reply" and address in self.reached:
+            self.once(
+                (address, "noise"),
+                (
+                    f"device {address} answered until now, and what comes can't be read: a loose wire, noise,"
+                    f" or another device at its address; {show}"
+                ),
+            )
+        elif cause == "no-reply" and not self.has_come.get(address):
+            self.once(
+                (address, "silent"),
+                (
+                    f"device {address} doesn't answer: its power, the two wires, its address, its rate, its"
+                    f" check; {find}"
+                ),
+            )
         elif cause == "no-reply":
-            self.once((address, "noise"), f"bytes come, but no answer of device {address}: another rate or check, two devices at one address, an answer "
-                                          f"later than reply-wait, or noise; {show}, or {find}")
+            self.once(
+                (address, "noise"),
+                (
+                    f"bytes come, but no answer of device {address}: another rate or check, two devices at"
+                    f" one address, an answer later than reply-wait, or noise; {show}, or {find}"
+                ),
+            )
         elif cause == "too-busy":
-            self.once((address, cause), f"device {address} is busy each time: wait until it has started, or give a larger busy-limit")
+            self.once(
+                (address, cause),
+                f"device {address} is busy each time: wait until it has started, or give a larger busy-limit",
+            )
         elif cause == "number-refused":
-            self.once((address, cause), f"device {address} keeps to another session: stop the other panel, or switch the device off and on")
+            self.once(
+                (address, cause),
+                (
+                    f"device {address} keeps to another session: stop the other panel, or switch the device"
+                    " off and on"
+                ),
+            )
         self.has_come[address] = 0
+        self.reached.discard(address)
 
     def is_refused(self, words, address):
         if words == ["NAK", "6"] or words[0] == "block":
-            self.once((int(address), "secure"), f"device {address} demands Secure Channel, which isn't spoken here: set it to a mode without")
+            self.once(
+                (int(address), "secure"),
+                f"device {address} demands Secure Channel, which isn't spoken here: set it to a mode without",
+            )
         elif words == ["NAK", "1"]:
-            self.once((int(address), "check"), f"device {address} reads another check: try check sum, or check crc")
+            self.once(
+                (int(address), "check"), f"device {address} reads another check: try check sum, or check crc"
+            )

@@ -13,14 +13,16 @@ def bits_of(count, digits):
 
 
 def facility_and_number(bits):
-    """The facility and the number of 26 bits whose parity is right: even over the first half, odd over the second."""
+    """The facility and the number of 26 bits whose parity is right: even over the first half, odd over the
+    second."""
     if len(bits) != 26 or bits[:13].count("1") % 2 != 0 or bits[13:].count("1") % 2 != 1:
         return None
     return int(bits[1:9], 2), int(bits[9:25], 2)
 
 
 def shown(words):
-    """What stands after an event: of a card its bits, and what they say; of keys the keys that are printable."""
+    """What stands after an event: of a card its bits, and what they say; of keys the keys that are
+    printable."""
     if words[:1] == ["RAW"] and len(words) == 5:
         bits = bits_of(int(words[3]), words[4])
         both = facility_and_number(bits)

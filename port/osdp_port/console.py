@@ -7,9 +7,11 @@ import sys
 import threading
 import time
 
-from .faults import FAILED, Stop
+from .faults import FAILED, Stop, shown
 
 LONGEST = 8192  # how many characters a line has at most
+# Ctrl-C, what a service manager sends, and that the terminal is closed
+STOPS = (signal.SIGINT, signal.SIGTERM, signal.SIGHUP)
 STUCK = 0.3  # how many seconds after Ctrl-C what is printed may wait for whoever reads it
 
 
@@ -36,15 +38,21 @@ class Console:
         self.rest, self.is_over = b"", sys.stdin is None
         self.stops, self.stopped_at = 0, 0.0  # how often Ctrl-C was typed, and when first
         self.printing = {}  # since when each thread waits until what it prints is read
-        self.is_handing = False  # whether the main thread waits until a program beside takes what it is handed
+        # whether the main thread waits until a program beside takes what it is handed
+        self.is_handing = False
         self.wakes, self.woken = os.pipe()
-        for number in (signal.SIGINT, signal.SIGTERM):
-            signal.signal(number, self.stopped)
+        for number in STOPS:
+            if number != signal.SIGHUP or signal.getsignal(number) != signal.SIG_IGN:  # as under `nohup`
+                signal.signal(number, self.stopped)
         signal.signal(signal.SIGALRM, self.looks)
-        signal.signal(signal.SIGTTIN, signal.SIG_IGN)  # in the background of a terminal it would stand still once a key is pressed there
+        # in the background of a terminal it would stand still once a key is pressed there
+        signal.signal(signal.SIGTTIN, signal.SIG_IGN)
 
     def stopped(self, number, _):
-        """Ctrl-C: the first one ends the program as soon as all is told, and the second one at once. After that no more is told by a further one."""
+        """Ctrl-C: the first one ends the program as soon as all is told, and the second one at once. After
+        that no more is told by a further one. That the terminal is closed a shell tells once more."""
+        if number == signal.SIGHUP and self.stops:
+            return
         self.stops += 1
         self.stopped_at = self.stopped_at or time.monotonic()
         signal.setitimer(signal.ITIMER_REAL, STUCK / 3, STUCK / 3)
@@ -56,10 +64,13 @@ class Console:
 
     def is_stuck(self):
         """Whether Ctrl-C was typed, and nobody reads what is printed."""
-        return self.stops > 0 and any(time.monotonic() - max(since, self.stopped_at) > STUCK for since in list(self.printing.values()))
+        return self.stops > 0 and any(
+            time.monotonic() - max(since, self.stopped_at) > STUCK for since in list(self.printing.values())
+        )
 
     def looks(self, *_):
-        """After Ctrl-C this is called again and again. Where nobody reads what is printed, the main thread waits for it no more."""
+        """After Ctrl-C this is called again and again. Where nobody reads what is printed, the main thread
+        waits for it no more."""
         if self.is_stuck() and (self.is_handing or threading.get_ident() in self.printing):
             self.gives_up()
 
@@ -89,15 +100,22 @@ class Console:
         self.stops = max(self.stops, 1)
         os.write(self.woken, b"x")
 
+    def quits(self):
+        """Ends the program as the first Ctrl-C does: a line asked for it."""
+        self.stopped_at = self.stopped_at or time.monotonic()
+        signal.setitimer(signal.ITIMER_REAL, STUCK / 3, STUCK / 3)
+        self.wake()
+
     @staticmethod
     def ends():
         """All was told: nothing is left that Ctrl-C could end."""
         signal.setitimer(signal.ITIMER_REAL, 0)
-        for number in (signal.SIGINT, signal.SIGTERM):
+        for number in STOPS:
             signal.signal(number, signal.SIG_IGN)
 
     def say(self, line):
         """Prints a line at once, with this moment."""
+        line = shown(line)
         self.raw(f"{stamp()} {line}" if self.has_times else line)
 
     def raw(self, line):
@@ -111,7 +129,7 @@ class Console:
     def note(self, line):
         """Prints a line that isn't of what was asked, on standard error."""
         try:
-            self.puts(2, f"osdp-port: {line}\n".encode(errors="backslashreplace"))
+            self.puts(2, f"osdp-port: {shown(line)}\n".encode(errors="backslashreplace"))
         except OSError:
             pass  # nobody reads it
         except Stop as stop:
@@ -127,10 +145,19 @@ class Console:
         except OSError as error:
             piece = b""
             if error.errno == errno.EIO:
-                self.note("standard input is that of another program, as in the background: no more lines are taken")
+                self.note(
+                    "standard input is that of another program, as in the background: no more lines are taken"
+                )
         *whole, rest = (self.rest + piece).split(b"\n")
         self.is_over, self.rest = not piece, rest[:LONGEST + 1]
         return [self.text(line) for line in (whole + [rest] if self.is_over and rest else whole)]
+
+    def all_lines(self):
+        """All lines that are there."""
+        found = []
+        while not self.is_over and select.select([0], [], [], 0)[0]:
+            found += self.lines()
+        return found
 
     @staticmethod
     def text(line):
@@ -140,8 +167,8 @@ class Console:
 
 
 def wait_for(port, console, seconds, lines=True):
-    """Waits so many seconds at most, or until the port or, where lines are wanted, standard input has something. A port without a descriptor is looked at again
-    every 5 milliseconds."""
+    """Waits so many seconds at most, or until the port or, where lines are wanted, standard input has
+    something. A port without a descriptor is looked at again every 5 milliseconds."""
     ends = [console.wakes] + ([0] if lines and not console.is_over else [])
     number = port.number()
     if number is None and port.is_there:

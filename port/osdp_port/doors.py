@@ -1,11 +1,29 @@
-"""Orders in words of a door: `5 open 3s`, `5 led green`, `5 beep`. Each is one command, by its text as `osdp` reads it."""
+"""Orders in words of a door: `5 open 3s`, `5 led green`, `5 beep`. Each is one command, by its text as `osdp`
+reads it."""
 import re
 
 from .faults import Refused, is_number
 
-COLOURS = {"off": 0, "black": 0, "red": 1, "green": 2, "amber": 3, "blue": 4, "magenta": 5, "cyan": 6, "white": 7}
+COLOURS = {
+    "off": 0,
+    "black": 0,
+    "red": 1,
+    "green": 2,
+    "amber": 3,
+    "blue": 4,
+    "magenta": 5,
+    "cyan": 6,
+    "white": 7,
+}
 COMMANDS = ("ID", "CAP", "LSTAT", "ISTAT", "OSTAT", "RSTAT", "OUT", "LED", "BUZ", "TEXT", "COMSET", "MFG")
-PLAIN = {"id": "ID 0", "capabilities": "CAP 0", "tamper": "LSTAT", "inputs": "ISTAT", "outputs": "OSTAT", "readers": "RSTAT"}
+PLAIN = {
+    "id": "ID 0",
+    "capabilities": "CAP 0",
+    "tamper": "LSTAT",
+    "inputs": "ISTAT",
+    "outputs": "OSTAT",
+    "readers": "RSTAT",
+}
 HELP = """ADDRESS open [TIME] [output N]      on for a time, 3s where it is left out
 ADDRESS on [output N], off [output N]   for good, at once
 ADDRESS led COLOUR [TIME], led COLOUR blink   off, red, green, amber, blue, magenta, cyan, white
@@ -13,7 +31,8 @@ ADDRESS beep [N], text WORDS   so many short sounds; words on the display
 ADDRESS id, capabilities, tamper, inputs, outputs, readers   what the device tells
 ADDRESS move NEW [RATE], rate RATE   a COMSET: another address, another rate of the whole line
 ADDRESS accept   the device that stands there now is the right one
-ADDRESS COMMAND..   as osdp has it: 5 OUT 0:5:30"""
+ADDRESS COMMAND..   as osdp has it: 5 OUT 0:5:30
+quit, or Ctrl-C   ends the panel"""
 
 
 def wrong(at, word, could):
@@ -98,7 +117,16 @@ def switch(control):
     return lambda words, _: f"OUT {output(words, 1)}:{control}:0"
 
 
-WORDS = {"open": opens, "on": switch(2), "off": switch(1), "led": led, "beep": beep, "text": text, "move": move, "rate": rate}
+WORDS = {
+    "open": opens,
+    "on": switch(2),
+    "off": switch(1),
+    "led": led,
+    "beep": beep,
+    "text": text,
+    "move": move,
+    "rate": rate,
+}
 
 
 def command(words, place):

@@ -15,6 +15,12 @@ class Refused(Exception):
     """A line that can't be done, and the sentence that says why."""
 
 
+def shown(text):
+    """A text that comes from outside, such as the words of another user's program, as it is printed: no
+    character of it does anything to a terminal."""
+    return "".join(each if each.isprintable() else each.encode("unicode_escape").decode() for each in text)
+
+
 def is_number(word, least, most):
     """Whether a word is a number of this span. (Python refuses to read one of thousands of digits.)"""
     return word.isascii() and word.isdecimal() and len(word) <= 10 and least <= int(word) <= most

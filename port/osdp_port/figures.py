@@ -1,4 +1,5 @@
-"""What a capture comes to: for each device its answer times, its repeats and when it was heard, and of the monitor's lines what each is about."""
+"""What a capture comes to: for each device its answer times, its repeats and when it was heard, and of the
+monitor's lines what each is about."""
 import datetime
 import re
 from collections import namedtuple
@@ -17,7 +18,8 @@ REACH = 200  # so many items before an answer are looked at
 
 
 def seconds(stamp):
-    """The moment that a stamp tells, in seconds: a date and a time, a time of the day, or a number of 15 digits at most. None where it tells none."""
+    """The moment that a stamp tells, in seconds: a date and a time, a time of the day, or a number of 15
+    digits at most. None where it tells none."""
     if stamp is None:
         return None
     text = stamp.strip().strip("[]()")
@@ -40,7 +42,8 @@ def rank(times, hundredth):
 
 
 def late_answer(before, answer):
-    """Of a late answer, in seconds: how long it took, and how long the panel waited. Each copy of a packet is answered once, in their order."""
+    """Of a late answer, in seconds: how long it took, and how long the panel waited. Each copy of a packet is
+    answered once, in their order."""
     copies, replies, after = [], 0, None
     for packet in reversed(before):
         if packet.address != answer.address:
@@ -54,7 +57,11 @@ def late_answer(before, answer):
                 break
             after = packet
     following = copies[1] if len(copies) > 1 else after
-    if replies >= len(copies) or following is None or None in (copies[0].moment, copies[replies].moment, following.moment, answer.moment):
+    if (
+        replies >= len(copies)
+        or following is None
+        or None in (copies[0].moment, copies[replies].moment, following.moment, answer.moment)
+    ):
         return None
     return answer.moment - copies[replies].moment, following.moment - copies[0].moment
 
@@ -64,7 +71,8 @@ class Device:
 
     def __init__(self, address):
         self.address = address
-        self.asked = self.answered = self.repeats = self.events = self.orders = self.damaged = self.unanswered = 0
+        self.asked = self.answered = self.repeats = self.events = 0
+        self.orders = self.damaged = self.unanswered = 0
         self.times = []  # of its answers, in seconds
         self.last = None  # the last packet to it
         self.waiting = 0  # how many packets were sent to it since it answered the last one
@@ -78,7 +86,9 @@ class Device:
         self.unanswered += 1
         self.orders += not is_repeat and packet.text not in PLAIN
         self.last, self.waiting = packet, self.waiting + 1
-        self.points.append((packet, "repeats" if is_repeat else "polls" if packet.text in PLAIN else "orders"))
+        self.points.append(
+            (packet, "repeats" if is_repeat else "polls" if packet.text in PLAIN else "orders")
+        )
 
     def answers(self, packet):
         self.answered += 1
@@ -90,12 +100,18 @@ class Device:
         self.points.append((packet, "cards and keys" if is_event else "answers"))
 
     def takes_time(self, packet):
-        """Keeps how long the answer took, where it answers the one packet that waits: of several nobody knows which."""
+        """Keeps how long the answer took, where it answers the one packet that waits: of several nobody knows
+        which."""
         sent = self.last
         if sent is None or packet.sequence != sent.sequence and packet.text != "BUSY":
             return
         waiting, self.waiting = self.waiting, 0
-        if waiting == 1 and sent.run != packet.run and None not in (sent.moment, packet.moment) and packet.moment >= sent.moment:
+        if (
+            waiting == 1
+            and sent.run != packet.run
+            and None not in (sent.moment, packet.moment)
+            and packet.moment >= sent.moment
+        ):
             self.times.append(packet.moment - sent.moment)
 
     def damage(self, packet):
@@ -106,12 +122,40 @@ class Device:
         return self.heard is not None and self.unanswered < SILENT
 
 
+class Heard:
+    """The devices of a line, as its packets, skipped bytes and refused bytes come, one after the other.
+    `made` makes a device at an address."""
+
+    def __init__(self, made=Device):
+        self.devices, self.made = {}, made
+        # the device that was asked last, and whether damage has come since
+        self.asked, self.was_damage = None, False
+
+    def takes(self, packet):
+        if packet.address is None:
+            if packet.kind == "refused" and self.asked is not None and not self.was_damage:
+                self.asked.damage(packet)
+            self.was_damage = self.was_damage or packet.kind == "refused"
+            return
+        self.was_damage = False
+        if packet.address not in self.devices:
+            self.devices[packet.address] = self.made(packet.address)
+        device = self.devices[packet.address]
+        if packet.kind == "cmd":
+            device.asks(packet)
+            self.asked = device
+        else:
+            device.answers(packet)
+            self.asked = None
+
+
 class Figures:
     """The packets of a capture, what is told of them, each device, and the line as a whole."""
 
     def __init__(self, packets, told, echoes, sizes, rates):
         self.packets, self.echoes = packets, echoes
-        self.devices = {}
+        self.heard = Heard()
+        self.devices = self.heard.devices
         self.places = {}  # where a packet stands in the list, by its run and place
         self.read_told(told)
         self.read_packets()
@@ -132,22 +176,9 @@ class Figures:
                 self.table.append(line)
 
     def read_packets(self):
-        asked, was_damage = None, False
         for at, packet in enumerate(self.packets):
             self.places[packet.run, packet.place] = at
-            if packet.address is None:
-                if packet.kind == "refused" and asked is not None and not was_damage:
-                    asked.damage(packet)
-                was_damage = was_damage or packet.kind == "refused"
-                continue
-            was_damage = False
-            device = self.devices.setdefault(packet.address, Device(packet.address))
-            if packet.kind == "cmd":
-                device.asks(packet)
-                asked = device
-            else:
-                device.answers(packet)
-                asked = None
+            self.heard.takes(packet)
 
     def rows(self):
         """The devices that the monitor's table has, in their order: damage alone makes no device."""
@@ -156,8 +187,14 @@ class Figures:
 
     def restarts(self, address):
         """The moments of a device's restarts, in seconds, as far as they have one."""
-        places = [self.places.get((each.run, each.place)) for each in self.told if each.address == address and each.text == RESTARTED]
-        return sorted(self.packets[at].moment for at in places if at is not None and self.packets[at].moment is not None)
+        places = [
+            self.places.get((each.run, each.place))
+            for each in self.told
+            if each.address == address and each.text == RESTARTED
+        ]
+        return sorted(
+            self.packets[at].moment for at in places if at is not None and self.packets[at].moment is not None
+        )
 
     def with_period(self, diagnosis):
         """A diagnosis; where it counts restarts, with the median of the times between them."""
@@ -165,7 +202,10 @@ class Figures:
         moments = self.restarts(int(found[1])) if found else []
         if not found or len(moments) < int(found[2]):
             return diagnosis
-        return f"{diagnosis}, every {rank(sorted(later - one for one, later in zip(moments, moments[1:])), 50):.0f} s"
+        return (
+            f"{diagnosis}, every"
+            f" {rank(sorted(later - one for one, later in zip(moments, moments[1:])), 50):.0f} s"
+        )
 
     def accusations(self):
         return [each for each in self.told if each.party != "device"]

@@ -1,108 +1,83 @@
-"""The files that keep, while there is no power, where devices stand: one of a panel, and one of a reader."""
-import contextlib
-import fcntl
+"""What keeps, while there is no power, where devices stand: a panel's store, and a reader's. docs/STORE.md has its tables."""
 import os
 import re
-import stat
 
-from .faults import FAILED, Stop, is_number
+from .faults import FAILED, Stop
 from .rounds import Place
+from .store import Store, StoreError
 
-HEAD = "# where the devices of this line stand: written by osdp-port panel"
+
+def private(path, flags):
+    """Opens a file that no other user may read where it is made here: it has cards, codes or places."""
+    return os.open(path, flags, 0o600)
 
 
-def write_whole(path, text):
-    """Writes the whole text to the disk, and puts it in the place of the one before, so that a loss of power leaves one of both. A link stays one."""
-    path = os.path.realpath(path)
-    new = f"{path}.new"
+def opened(path, role, is_new):
+    """A store. The program ends where it can't be used."""
     try:
-        write_beside(path, new, text)
-    except OSError:
-        with contextlib.suppress(OSError):
-            os.unlink(new)
-        raise
-    folder = os.open(os.path.dirname(path), os.O_RDONLY)
-    try:
-        os.fsync(folder)
-    finally:
-        os.close(folder)
+        return Store(path, role, is_new)
+    except StoreError as error:
+        raise Stop(str(error), FAILED) from None
 
 
-def write_beside(path, new, text):
-    """Writes a text to a new file, with the rights of the one whose place it takes."""
-    with open(new, "w", encoding="ascii") as file:
-        if os.path.exists(path):
-            os.fchmod(file.fileno(), stat.S_IMODE(os.stat(path).st_mode))
-        file.write(text)
-        file.flush()
-        os.fsync(file.fileno())
-    os.replace(new, path)
+class Kept:
+    """A store, which is this program's alone from `read` to `close`."""
 
+    role = ""
 
-def text_of(path):
-    """The text of a file; none where nothing was kept yet."""
-    try:
-        with open(path, encoding="ascii") as file:
-            return file.read()
-    except FileNotFoundError:
+    def __init__(self, path, is_new=False):
+        self.path, self.is_new, self.store = path, is_new, None
+
+    def open(self):
+        """Opens the store, and makes it before that where it is to be new. What it keeps of each device."""
+        self.store = opened(self.path, self.role, self.is_new)
+        try:
+            return self.store.devices()
+        except StoreError as error:
+            raise Stop(str(error), FAILED) from None
+
+    def put(self, devices):
+        """Keeps where these devices are. Why that isn't kept; none where it is."""
+        try:
+            self.store.keep(devices)
+            self.store.commit()
+        except StoreError as error:
+            return str(error)
         return None
 
-
-def kept_text(path):
-    """The text of a file that is read at the start."""
-    try:
-        return text_of(path)
-    except (OSError, ValueError):
-        raise Stop(f"the kept place can't be read: {path}", FAILED) from None
+    def close(self):
+        self.store.close()
 
 
-class ReaderPlace:
-    """A reader's address and rate: one line with both numbers. The file is held while the program runs, so two readers don't write their places into one."""
+class ReaderPlace(Kept):
+    """A reader's address and rate: the one device of its store."""
 
-    def __init__(self, path):
-        self.path, self.held = path, None
+    role = "device"
 
-    def hold(self):
-        """Holds the file, where it is there. Whether no other reader does."""
-        try:
-            file = open(self.path, encoding="ascii")
-        except FileNotFoundError:
-            return True
-        if self.held and os.path.sameopenfile(file.fileno(), self.held.fileno()):
-            return True
-        try:
-            fcntl.flock(file, fcntl.LOCK_EX | fcntl.LOCK_NB)
-        except BlockingIOError:
-            return False
-        self.held = file
-        return True
-
-    def others(self):
-        return f"another reader keeps its place in {self.path}"
+    def __init__(self, path, is_new=False):
+        super().__init__(path, is_new)
+        self.name = None  # the address at which the reader was first
 
     def read(self):
-        """The place; none where nothing was kept yet. Refused is the file of another reader that runs."""
-        text = kept_text(self.path)
-        if text is None:
+        """The place; none where nothing was kept yet."""
+        devices = self.open()
+        if len(devices) > 1:
+            raise Stop(f"{self.path} keeps {len(devices)} devices, and a reader is one: name another file", FAILED)
+        for self.name, (places, _) in devices.items():
+            return Place(*places[0])
+        return None
+
+    def begins(self, address, rate):
+        """Keeps the first place, where none is kept: by its address the store names the reader. Why it isn't kept; none where it is."""
+        if self.name is not None:
             return None
-        if not self.hold():
-            raise Stop(f"{self.others()}: name another file")
-        lines = text.splitlines()
-        words = lines[0].split() if len(lines) == 1 else []
-        if len(words) != 2 or not (is_number(words[0], 0, 126) and is_number(words[1], 1, 4000000)):
-            raise Stop(f"the kept place can't be read: {self.path}")
-        return Place(*map(int, words))
+        self.name = address
+        return self.keep(Place(address, rate))
 
     def keep(self, place):
         """Keeps a place. Why it isn't kept; none where it is."""
-        try:
-            if not self.hold():
-                return self.others()
-            write_whole(self.path, f"{place}\n")
-            self.hold()  # the new file
-        except OSError as error:
-            return f"{self.path} can't be written: {error.strerror}"
-        return None
+        address, rate = map(int, str(place).split())
+        return self.put({self.name: ([(address, rate)], None)})
 
 
 class Known:
@@ -111,9 +86,14 @@ class Known:
     def __init__(self, places, identity=None):
         self.places, self.identity = places, identity
 
+    def row(self):
+        """The same as a store has it."""
+        identity = self.identity and (self.identity[0], int(self.identity[1]), int(self.identity[2]))
+        return [(place.address, place.rate) for place in self.places], identity
+
 
 def port_name(port):
-    """A port as a line of a file names it."""
+    """A port as a store names it."""
     path = port if "://" in port else os.path.abspath(port)
     return re.sub(r"[^ -~]", lambda found: found[0].encode("unicode_escape").decode(), path)
 
@@ -123,85 +103,40 @@ def is_same_port(name, other):
     return name == other or "://" not in name + other and os.path.realpath(name) == os.path.realpath(other)
 
 
-class PanelPlaces:
-    """The places of the devices of a line, by the address that each was named by at the first start. The line `port /dev/ttyUSB0` says whose line it is, and
-    `5 at 7 9600 or 5 9600 is 53494D 1 12` that the device that began as 5 is at address 7 or 5, and its vendor, model and serial number.
+class PanelPlaces(Kept):
+    """The places of the devices of a line, by the address that each was named by at the first start, and whose line it is."""
 
-    A file that another program has changed since it was read or written here is left as it is: nobody knows any more which places are right."""
+    role = "panel"
 
-    def __init__(self, path, port=None):
-        self.path, self.port, self.known = path, port and port_name(port), {}
-        self.seen = None  # the text that the file had last, as this program knows; none where it wasn't there
+    def __init__(self, path, port=None, is_new=False):
+        super().__init__(path, is_new)
+        self.port, self.known = port and port_name(port), {}
 
     def read(self):
-        """What is kept of each device. Refused is the file of another port."""
-        self.seen = kept_text(self.path)
-        for at, line in enumerate((self.seen or "").splitlines(), 1):
-            if line.startswith("port "):
-                self.is_of(line.removeprefix("port ").strip())
-            elif line.strip() and not line.startswith("#"):
-                try:
-                    name, known = self.parsed(line)
-                except ValueError:
-                    raise Stop(f"the kept places can't be read: {self.path}, line {at}") from None
-                if name in self.known:
-                    raise Stop(f"the kept places can't be read: {self.path}, line {at}: {name} stands twice")
-                self.known[name] = known
+        """What is kept of each device. Refused is the store of another port."""
+        for name, (places, identity) in self.open().items():
+            self.known[name] = Known([Place(*place) for place in places], identity and tuple(map(str, identity)))
+        line = self.store.value("SELECT line FROM store")
+        if self.port and line is not None and not is_same_port(line, self.port):
+            raise Stop(f"{self.path} is of the line at {line}, and not of {self.port}: name another file; or, if it is the same line, forget its name by  "
+                       f"sqlite3 {self.path} 'UPDATE store SET line = NULL'", FAILED)
         return self.known
 
-    def is_of(self, port):
-        if self.port and not is_same_port(port, self.port):
-            raise Stop(f"{self.path} is of the line at {port}, and not of {self.port}: name another file, or put {self.port} there if it is the same line")
-
-    @staticmethod
-    def parsed(line):
-        name, _, rest = line.partition(" at ")
-        places, _, identity = rest.partition(" is ")
-        found = [Place(int(address), int(rate)) for address, rate in (each.split() for each in places.split(" or "))]
-        words = identity.split()
-        if not 1 <= len(found) <= 3 or any(not (0 <= each.address <= 126 and each.rate > 0) for each in found) or len(words) not in (0, 3):
-            raise ValueError(line)
-        return int(name), Known(found, tuple(words) or None)
-
-    def text(self):
-        rows = [f"{name} at {' or '.join(map(str, known.places))}{' is ' + ' '.join(known.identity) if known.identity else ''}"
-                for name, known in sorted(self.known.items())]
-        return "\n".join([HEAD, *([f"port {self.port}"] if self.port else []), *rows]) + "\n"
-
-    def is_changed(self):
-        """Whether another program has written the file since this one has seen it. One that is gone is written anew."""
-        try:
-            return text_of(self.path) not in (None, self.seen)
-        except ValueError:
-            return True  # it is no text any more
-
-    def changed(self):
-        return f"another program has changed {self.path}, as an editor or the panel of another line: start this panel again, with a file of its own"
-
     def begins(self):
-        """Writes down whose line it is, before anything goes out. Why it isn't kept; none where it is. Refused is a file that another panel has begun meanwhile."""
-        why = self.put(self.text())
-        if why == self.changed():
-            raise Stop(why)
-        return why
-
-    def put(self, text):
-        """Puts a text into the file. Why it isn't there; none where it is."""
+        """Writes down whose line it is, before anything goes out. Why it isn't kept; none where it is."""
         try:
-            if text != self.seen:
-                if self.is_changed():
-                    return self.changed()
-                write_whole(self.path, text)
-        except OSError as error:
-            return f"{self.path} can't be written: {error.strerror}"
-        self.seen = text
+            if self.port and self.store.value("SELECT line FROM store") != self.port:
+                self.store.write("UPDATE store SET line = ?", self.port)
+                self.store.commit()
+        except StoreError as error:
+            return str(error)
         return None
 
     def write(self, entries):
         """Keeps the places of these devices, beside those of devices that aren't here now. Why they aren't kept; none where they are."""
         for entry in entries:
             self.known[entry.name] = Known(list(entry.places), entry.identity)
-        return self.put(self.text())
+        return self.put({name: known.row() for name, known in self.known.items()})
 
     def refusal(self, names):
         """Why a panel of the devices with these names may not start: one would be at a place where another may be."""

@@ -29,7 +29,13 @@ def show(words, port, console, osdp):
 
 
 def trace(words, port, console, _):
-    file = Trace(words.rest[0], words.get("--size", 10) * 1000000, console.note, osdpcap if words.get("--osdpcap") else digits, lambda: port.rate)
+    file = Trace(
+        words.rest[0],
+        words.get("--size", 10) * 1000000,
+        console.note,
+        osdpcap if words.get("--osdpcap") else digits,
+        lambda: port.rate,
+    )
     bursts = Bursts(file.takes, "trace" if words.get("--osdpcap") else "in")
     until_stopped(port, console, bursts.came, lambda: file.file is not None)
     bursts.flush()
@@ -43,7 +49,9 @@ class Monitor(Stream):
     def __init__(self, words, console, osdp):
         self.address, self.leaves_out = words.get("--address"), False
         options = ["--every", str(words.get("--every"))] if words.get("--every") else []
-        super().__init__(osdp, ["monitor", "--raw", *options, *(["--packets"] if words.get("--all") else [])], console)
+        super().__init__(
+            osdp, ["monitor", "--raw", *options, *(["--packets"] if words.get("--all") else [])], console
+        )
 
     def prints(self, line):
         """Prints a line; one of another device is left out."""
@@ -64,7 +72,11 @@ class Objects(Stream):
     def __init__(self, words, console, osdp):
         self.address = words.get("--address")
         options = ["--every", str(words.get("--every"))] if words.get("--every") else []
-        super().__init__(osdp, ["monitor", "--raw", "--json", *options, *(["--packets"] if words.get("--all") else [])], console)
+        super().__init__(
+            osdp,
+            ["monitor", "--raw", "--json", *options, *(["--packets"] if words.get("--all") else [])],
+            console,
+        )
 
     def prints(self, line):
         """Prints an object; one of another device is left out."""

@@ -13,8 +13,9 @@ class Output:
         return self.for_a_time if self.clock() < self.until else self.for_good
 
     def switch(self, control, time):
-        """Does what one record of an OUT says. 1 and 2 are off and on for good, at once. 3 and 4 are the same, but a time that runs goes on.
-        5 and 6 are on and off for a time. Other controls ask for nothing, though the reader confirms them too."""
+        """Does what one record of an OUT says. 1 and 2 are off and on for good, at once. 3 and 4 are the
+        same, but a time that runs goes on. 5 and 6 are on and off for a time. Other controls ask for nothing,
+        though the reader confirms them too."""
         if control in (5, 6):
             self.for_a_time, self.until = control == 5, self.clock() + 100 * time
         elif control in (1, 2, 3, 4):

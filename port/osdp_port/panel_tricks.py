@@ -1,6 +1,6 @@
 """The tricks of `test panel`: for each rule of `osdp test panel` what the device does to one packet of the panel, in the order in which they are played."""
 
-ALWAYS = range(1, 8)  # these rules are judged by each packet
+ALWAYS = (*range(1, 8), 36)  # these rules are judged by each packet
 NUMBERED = {"number 1": 1, "number 2": 2, "number 3": 3}  # nothing is said to a packet with this number
 
 TRICKS = {

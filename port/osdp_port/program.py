@@ -1,4 +1,5 @@
-"""The program `osdp` beside this one: by lines, as `osdp panel` and `osdp reader`, or with a stream of bytes, as `osdp monitor`."""
+"""The program `osdp` beside this one: by lines, as `osdp panel` and `osdp reader`, or with a stream of bytes,
+as `osdp monitor`."""
 import os
 import shutil
 import signal
@@ -7,11 +8,10 @@ import sys
 import threading
 from pathlib import Path
 
-from .console import write_all
+from .console import STOPS, write_all
 from .faults import NO_PROGRAM, Stop
 
 PROGRAM_FAULTS = (2, 3, 4)  # statuses of the program: it has told the fault
-STOPS = (signal.SIGINT, signal.SIGTERM)
 
 
 def find_program(given=None):
@@ -26,7 +26,8 @@ def find_program(given=None):
 
 
 def start(path, words, **streams):
-    """Starts the program. No Ctrl-C reaches it, and no SIGTERM, which a service manager sends to it too: so it tells its end once its input is over."""
+    """Starts the program. No Ctrl-C reaches it, and no SIGTERM, which a service manager sends to it too: so
+    it tells its end once its input is over."""
     pipes = {"stdin": subprocess.PIPE, "stdout": subprocess.PIPE, **streams}
     before = signal.pthread_sigmask(signal.SIG_BLOCK, STOPS)  # it inherits that
     try:
@@ -62,7 +63,8 @@ class Stream:
             raise
 
     def read(self):
-        """Hands on each line. Where it can't be printed, or no line comes any more, the program ends, as the main thread is told."""
+        """Hands on each line. Where it can't be printed, or no line comes any more, the program ends, as the
+        main thread is told."""
         try:
             for text in self.process.stdout:
                 if text.endswith(b"\n"):  # else it was killed within the line
@@ -100,7 +102,8 @@ class Lines:
     def call(self, line):
         """Hands it one line. The lines of its answer; the last of them begins with `due` or `waiting`."""
         answer = []
-        signal.pthread_sigmask(signal.SIG_BLOCK, STOPS)  # so that the program isn't left in the middle of an answer
+        # so that the program isn't left in the middle of an answer
+        signal.pthread_sigmask(signal.SIG_BLOCK, STOPS)
         try:
             write_all(self.process.stdin.fileno(), line.encode() + b"\n")
         except OSError:

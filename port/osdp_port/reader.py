@@ -3,6 +3,8 @@ from .cards import raw_of
 from .faults import Refused, is_number
 from .outputs import Outputs
 from .rounds import Place
+from .serial_port import pieces
+from .turns import AGAIN, Timed
 
 TURN = 10  # how long a read waits, in milliseconds
 NAK = 0x41  # the code of a reply that says that nothing was done
@@ -13,7 +15,8 @@ OWN = ("at", "bytes", "silence", "tick", "outputs")  # the calls that are made h
 COULD = "what can stand there is card, keys, event, busy, inputs, readers, local and help"
 HELP = """card FACILITY NUMBER   a card of 26 bits was read
 keys KEYS              keys were pressed, as keys 123#
-event, busy, inputs, readers, local   as osdp reader has them: event KEYPAD 0 31"""
+event, busy, inputs, readers, local   as osdp reader has them: event KEYPAD 0 31
+quit, or Ctrl-C        ends the reader"""
 
 
 def call_of(line):
@@ -35,11 +38,12 @@ def call_of(line):
 STATES = ("busy", "inputs", "readers", "local")  # calls that hold until the next one of their name
 
 
-class Reader:
+class Reader(Timed):
     """The reader. `port` writes bursts and has a rate, `starts` gives the program `osdp reader` at an address, `clock` tells the moment, and `say` prints a line."""
 
     def __init__(self, port, starts, address, clock, say, kept=None):
-        self.port, self.starts, self.address, self.clock, self.say, self.kept = port, starts, address, clock, say, kept
+        super().__init__(clock)
+        self.port, self.starts, self.address, self.say, self.kept = port, starts, address, say, kept
         self.program = starts(address)
         self.outputs = Outputs(clock)
         self.told = None  # what the program was told of them
@@ -74,10 +78,13 @@ class Reader:
                 self.stays(place)
                 return
             for each in told:
+                if self.is_late() and each.startswith(("taken ", "moved ")) and (burst is None or burst[5] != NAK):
+                    self.comes_too_late(each.partition(" ")[2])
+                    return
                 self.heed(each, burst)
             if place:
                 self.keep(place)  # before the panel is told
-            if burst is not None:
+            if burst is not None and not self.is_late():
                 self.port.write(burst)
             if place:
                 self.address = place.address
@@ -92,10 +99,23 @@ class Reader:
         """A COMSET to a rate that the port hasn't isn't answered, since nobody would find the reader there. The program starts anew where the reader is, as after a
         loss of power. So the panel loses the session, and finds the reader there. The events that wait are told in the next session."""
         self.say(f"refused COMSET {place}: the port has no rate {place.rate}; the reader stays at {self.address} {self.port.rate}, and its session ends")
+        events, self.events = self.events, []
+        self.starts_anew(events)
+
+    def comes_too_late(self, text):
+        """The program stood still before it could do a command, and its panel has given that up. It isn't done, nor answered: the program starts anew, as after a loss
+        of power, so that no panel takes it for done. The events that wait may be too old, too."""
+        self.say(f"not done {text}: the program stood still; the session of the reader ends")
+        for line in self.events:
+            self.say(f"in doubt {line.removeprefix('event ')}: the program stood still; the panel may have got it or not")
+        self.events = []
+        self.starts_anew()
+
+    def starts_anew(self, events=()):
+        """Starts the program anew where the reader is, with its states and these events."""
         self.program.close()
         self.program, self.told = self.starts(self.address), None
-        calls, self.events = [*self.states.values(), *self.events], []
-        for line in [f"at {self.clock()}", *calls]:
+        for line in [f"at {self.clock()}", *self.states.values(), *events]:
             self.call(line)
         self.tell_outputs()
 
@@ -106,10 +126,10 @@ class Reader:
             name = "refused"
         elif name == "refused":
             words = [{"N2": "no room for another event", "line": f"osdp doesn't read this line: man osdp-reader has them; of word 1 {COULD}"}.get(words[0], words[0])]
-        self.say(" ".join([name, *words]) + (f": {MEANS[name]}" if name in MEANS else ""))
         if name == "taken" and words[0] == "OUT":
             self.outputs.switch(words[1:])
             self.tell_outputs()
+        self.say(" ".join([name, *words]) + (f": {MEANS[name]}" if name in MEANS else ""))
 
     def keep(self, place):
         """Keeps where the reader is from now on."""
@@ -141,13 +161,17 @@ class Reader:
             self.say(call)
             self.call(call)
 
-    def turn(self, read, lines):
-        self.call(f"at {self.clock()}")
+    def turn(self, read, lines, now=None, stood_still=0):
+        """Hands over what has come. What came while the program stood still is dropped, as the line may lose it: its panel has given it up."""
+        self.begins(now)
+        self.call(f"at {self.now}")
         self.tell_outputs()
-        if read:
-            self.call(f"bytes {read.hex()}")
+        if stood_still:
+            self.say(f"stood still for {stood_still / 1000:.1f} s: {len(read)} bytes that came meanwhile are dropped")
+        for piece in [] if stood_still else pieces(read):
+            self.call(f"bytes {piece.hex()}")
         for line in lines:
-            self.line(line)
+            self.say(f"refused {line or 'a line'}: {AGAIN}") if stood_still else self.line(line)
         self.call("tick")
 
     def next_moment(self):

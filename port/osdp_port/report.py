@@ -1,4 +1,5 @@
-"""A capture as one page: it is read by `osdp show --times` and judged by `osdp monitor`, both beside this program."""
+"""A capture as one page: it is read by `osdp show --times` and judged by `osdp monitor`, both beside this
+program."""
 import json
 import re
 import subprocess
@@ -20,14 +21,18 @@ usage: osdp-report [FORM] [--rate R] [--json] [--osdp PROGRAM] [FILE] > report.h
   --osdpcap   it is .osdpcap: an object of JSON a line
   --stamped   it is lines of a stamp, TX or RX, and digits
   --raw       it is bytes; they have no moments
-  --rate R    the line's rate in bits a second, by which the share of time in use is told; a trace of osdp-port has it
+  --rate R    the line's rate in bits a second, by which the share of time in use is told;
+              a trace of osdp-port has it
   --json      an object of JSON a line, in place of the page: man osdp-report has the names
   --osdp P    the path of the program osdp
 
-Without FILE it reads standard input. What an adapter hands back of a packet that was sent is left out, and told.
+Without FILE it reads standard input. What an adapter hands back of a packet that was sent is left out,
+and told.
 The page has what is likely wrong in words, a table with answer times, a timeline for each device, and each
-accusation with its packets; where the capture has moments, also packets, damage and turns of the panel a second.
-It is 0 where the page is written, 2 at bad words, 3 where something can't be read or written, 127 where the program osdp isn't there.
+accusation with its packets; where the capture has moments, also packets, damage and turns of the panel a
+second.
+It is 0 where the page is written, 2 at bad words, 3 where something can't be read or written, 127 where the
+program osdp isn't there.
 """
 FORMS = ("--hex", "--osdpcap", "--stamped", "--raw")
 FOLLOWED = {"--rate": "a number of bits a second", "--osdp": "the path of osdp"}
@@ -43,7 +48,8 @@ def rate_of(word):
 
 
 def words_of(words):
-    """The form, what writes, the rate, the program's path and the file that the words ask for; the last three may be none."""
+    """The form, what writes, the rate, the program's path and the file that the words ask for; the last three
+    may be none."""
     form, writes, rate, given, file = "--hex", page, None, None, None
     rest = list(words)
     while rest:
@@ -100,7 +106,20 @@ def shown(program, form, capture):
         stamp, way, number, place, kind, rest = found.groups()
         head = HEAD.match(rest) if kind in ("cmd", "reply") else None
         address, sequence, check, text = head.groups() if head else (None, None, None, rest.strip())
-        packets.append(Packet(seconds(stamp), stamp, way, int(number), int(place), kind, None if address is None else int(address), sequence, check, text))
+        packets.append(
+            Packet(
+                seconds(stamp),
+                stamp,
+                way,
+                int(number),
+                int(place),
+                kind,
+                None if address is None else int(address),
+                sequence,
+                check,
+                text,
+            )
+        )
     return packets
 
 
@@ -113,7 +132,10 @@ def burst_of(form, line):
     """The digits of a line that is a run; none of a blank line, a comment or an object without bytes."""
     if form == "--osdpcap":
         try:
-            return json.loads(line.decode(errors="replace"))["data"].replace("-", "").replace(" ", "").upper() or None
+            return (
+                json.loads(line.decode(errors="replace"))["data"].replace("-", "").replace(" ", "").upper()
+                or None
+            )
         except (ValueError, KeyError, AttributeError, TypeError):
             return None
     text = line.decode(errors="replace").strip()
@@ -125,7 +147,8 @@ def burst_of(form, line):
 
 
 def without_echo(form, capture, packets):
-    """The capture without each run that came in and is the one that went out just before, and how many these are."""
+    """The capture without each run that came in and is the one that went out just before, and how many these
+    are."""
     if form == "--raw":
         return capture, 0
     ways = {packet.run: packet.way for packet in packets}
@@ -153,7 +176,11 @@ def sizes_of(form, capture):
 
 def rates_of(form, capture):
     """The rates that the comments of a capture tell, each once."""
-    return set(map(int, re.findall(rb"^# rate ([1-9][0-9]{0,6})\r?$", capture, re.M))) if form == "--hex" else set()
+    return (
+        set(map(int, re.findall(rb"^# rate ([1-9][0-9]{0,6})\r?$", capture, re.M)))
+        if form == "--hex"
+        else set()
+    )
 
 
 def report(program, form, writes, rate, capture):
@@ -163,7 +190,9 @@ def report(program, form, writes, rate, capture):
     if echoes:
         packets = shown(program, form, capture)
     told = run(program, ["monitor", form, *(["--recorded"] if form == "--raw" else [])], capture)
-    return writes(Figures(packets, told, echoes, sizes_of(form, capture), {rate} if rate else rates_of(form, capture)))
+    return writes(
+        Figures(packets, told, echoes, sizes_of(form, capture), {rate} if rate else rates_of(form, capture))
+    )
 
 
 def write(text):

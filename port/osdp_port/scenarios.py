@@ -1,11 +1,15 @@
 """The scenarios of `test device`: for each rule of `osdp test` the packets that are sent, in their order.
 
 A step is `open` or `ask`, a number, what is sent, and how. `open` makes ready, and `ask` is what the rule is judged by. What is sent is a command's
-name, or `x` and the digits of a body. How: `sum` or `crc`, where both may stand the run's own; `other`, to another device; `reply`, as if a device
-had said it; `block`, with a security block; `filled`, after bytes FF. Bytes that are no packet: `badcheck`, `long`, `short`, `start`, `cut`, `noise`.
-`+` joins the steps of packets that go out without a pause between them. What is made by what the device told by CAP: `BEYOND-OUT`, `BEYOND-LED` and
-`BEYOND-TEXT`, which name what it doesn't have; `FILLS` and `OVER`, an unknown code that fills its receive buffer, or is larger; `LARGEST` is the
-largest packet of all. `times` judges a rule by the times of all answers."""
+name, or `x` and the digits of a body. How: `sum` or `crc`, where both may stand the run's own; `other`, to another device; `near`, to each address that
+differs in one bit, and to 0; `reply`, as if a device had said it; `block`, with a security block; `filled`, after bytes FF. Bytes that are no packet:
+`badcheck`, `badfirst`, `long`, `short` (with a length), `start`, `cut`, `noise`. `+` joins the steps of packets that go out without a pause between them. What is
+made by what the device told by CAP: `BEYOND-OUT`, `BEYOND-LED` and `BEYOND-TEXT`, which name what it doesn't have; `FILLS` and `OVER`, an unknown code
+that fills its receive buffer, or is larger; `LARGEST` is the largest packet of all.
+
+Other steps: `wait`; `times` judges a rule by the times of all answers; `caps` by what CAP told; `event` waits for a card, a key or an input, whose answer is
+then asked for again; `anew` looks whether it is told once more; `relay` orders an output twice; `alive` tells whether the device still answers. The rules of
+`WHOLE` are judged by all that was said in the run. What isn't answered is sent twice in scenarios where nothing else would tell that it was lost."""
 
 NAMES = {
     "POLL": "60", "ID": "6100", "CAP": "6200", "LSTAT": "64", "ISTAT": "65", "OSTAT": "66", "RSTAT": "67",
@@ -50,9 +54,9 @@ SCENARIOS = {
     31: ("", f"{OPEN} crc; ask - badcheck crc"),
     32: ("", f"{OPEN}; ask - long"),
     33: ("", f"{OPEN}; ask - short"),
-    34: ("", f"{OPEN}; ask - start"),
+    34: ("", f"{OPEN}; ask - start; ask - start"),
     35: ("", f"{OPEN}; ask - cut"),
-    36: ("", f"{OPEN}; ask - noise"),
+    36: ("", f"{OPEN}; ask - noise; ask - noise"),
     37: ("", f"{OPEN}; ask 1 POLL other; ask 0 ID other"),
     38: ("", f"{OPEN}; ask 1 x40 reply"),
     39: ("", f"{OPEN}; ask 1 POLL block"),
@@ -101,5 +105,20 @@ SCENARIOS = {
     82: ("", f"{OPEN}; {TURN}; open 2 LARGEST other; ask 2 POLL"),
     83: ("", "open 0 CAP; ask 1 FILLS"),
     84: ("", f"open 0 CAP; {TURN}; open 2 OVER; ask 0 ID"),
+    86: ("", f"{OPEN}; open 1 x5F; ask 2 POLL; open 3 x00; ask 1 ID"),
+    87: ("", f"{OPEN}; open 1 x6001; ask 2 POLL; open 3 x61; ask 1 POLL"),
+    88: ("beyond", "open 0 CAP; open 1 BEYOND-OUT; ask 2 POLL"),
+    89: ("", f"{OPEN}; {TURN}; open 1 POLL; ask 2 POLL; open 3 ID; open 3 ID; open 3 ID; ask 1 POLL"),
+    90: ("", f"{OPEN} crc; ask - badfirst crc; ask - badfirst crc"),
+    91: ("", f"{OPEN}; " + "; ".join(f"ask - short{length}" for length in (0, 1, 2, 3, 4, 6) * 2)),
+    92: ("", f"{OPEN}; ask 0 ID near"),
+    93: ("", "open 0 CAP; caps"),
+    94: ("", f"{OPEN}; event"),
+    95: ("", "anew"),
+    96: ("relay", "open 0 CAP; relay"),
     85: ("", "times"),
+    97: ("", "alive"),
 }
+
+# the rules that are judged by all that was said in the run
+WHOLE = (98, 99, 100, 101, 102, 103, 104, 105, 106, 107)

@@ -1,11 +1,14 @@
-"""`test script`: runs a script of one's own. `osdp test script` says what is sent, and judges what is heard."""
+"""`test script`: runs a script of one's own. `osdp test script` says what is sent, and judges what is
+heard."""
 from .console import write_all
 from .faults import BAD_WORDS, Stop
 from .panel_testing import reads
 from .program import Lines
 from .testing import ANSWER, Player, delay_at, status_of
 from .trace import Record
+from .turns import Watched
 
+STILL = 0.5  # seconds for which the program may stand still within an exchange; else the test ends
 LONGEST = 4000  # how many bytes of what was heard are handed over at most
 OWN = ("heard", "ready")  # the lines that are written here, and don't stand in a script
 
@@ -44,7 +47,8 @@ def lines_of(path):
 
 
 def is_own(line):
-    """Whether a line is one that is written here: in a script it would be taken for an answer of the line, or for the end of one of the program."""
+    """Whether a line is one that is written here: in a script it would be taken for an answer of the line, or
+    for the end of one of the program."""
     return line.split()[:1] in ([word] for word in OWN)
 
 
@@ -53,7 +57,10 @@ def refusals(osdp, path, lines):
     script, found = Script(osdp, ["test", "script"], quiet=True), []
     for number, line in enumerate(lines, 1):
         if is_own(line):
-            found.append(f"{path}: line {number}, {line.strip()}: no line of a script begins so, since osdp-port writes it")
+            found.append(
+                f"{path}: line {number}, {line.strip()}: no line of a script begins so, since osdp-port"
+                " writes it"
+            )
             continue
         why = [answer.partition(" refused: ")[2] for answer in script.call(line) if " refused: " in answer]
         found += [f"{path}: line {number}, {line.strip()}: {each}" for each in why]
@@ -62,7 +69,8 @@ def refusals(osdp, path, lines):
 
 
 def answer_at(heard, address):
-    """Where the answer begins: the first reply from an address, as `osdp test script` finds it. None where there is none."""
+    """Where the answer begins: the first reply from an address, as `osdp test script` finds it. None where
+    there is none."""
     at = 0
     while found := reads(heard[at:]):
         is_reply, sender, *_, whole = found
@@ -77,7 +85,10 @@ class Runner:
     """Runs the lines of a script on a port. `keep` gets each line that the program reads."""
 
     def __init__(self, port, console, script, keep):
-        self.player, self.console, self.script, self.keep = Player(port, console, 0, {}, None), console, script, keep
+        self.port = Watched(port)
+        self.player = Player(self.port, console, 0, {}, None)
+        self.stood_still = 0.0  # for how many seconds the program did within an exchange
+        self.console, self.script, self.keep = console, script, keep
 
     def calls(self, line):
         self.keep(line)
@@ -87,7 +98,12 @@ class Runner:
         """The line that tells what was heard of these bytes."""
         moment = self.player.moment()
         sent = bytes.fromhex(digits)
-        heard, delays = self.player.reads(sent, ANSWER, is_whole=lambda came: answer_at(came, sent[1]) is not None)
+        self.port.begins()
+        heard, delays = self.player.reads(
+            sent, ANSWER, is_whole=lambda came: answer_at(came, sent[1]) is not None
+        )
+        self.port.looks()
+        self.stood_still = self.port.longest if self.port.longest > STILL else 0.0
         heard = heard[:LONGEST]
         delay = delay_at(delays, answer_at(heard, sent[1]) or 0)
         return f"heard {moment} {delay} {heard.hex().upper() or 'none'}"
@@ -99,7 +115,10 @@ class Runner:
             said = answer.pop(0)
             verb, _, rest = said.partition(" ")
             if verb == "send":
-                answer += self.calls(self.sends(rest))
+                heard = self.sends(rest)
+                if self.stood_still:
+                    return  # how long the answer took isn't known
+                answer += self.calls(heard)
             elif verb == "wait":
                 self.player.pauses(int(rest))
             else:
@@ -112,16 +131,23 @@ def run(words, port, console, osdp):
     lines = lines_of(path)
     wrong = refusals(osdp, path, lines)
     if wrong:
-        raise Stop("\nosdp-port: ".join(wrong), BAD_WORDS)
+        for each in wrong:
+            console.note(each)
+        raise Stop(status=BAD_WORDS)
     record = Record(words.get("--trace"))
     runner = Runner(port, console, Script(osdp, ["test", "script"]), record.write)
     for line in lines:
-        if console.stops or not port.is_there:
+        if console.stops or not port.is_there or runner.stood_still:
             break
         if " from user " in line and not line.lstrip().startswith("#"):
             console.note(f"the user: {line.strip()}")
         runner.runs(line)
-    is_cut_off = bool(console.stops) or not port.is_there
+    is_cut_off = bool(console.stops) or not port.is_there or bool(runner.stood_still)
+    if runner.stood_still:
+        console.note(
+            f"the program stood still for {runner.stood_still:.1f} s within an exchange, so how long its"
+            " answer took isn't known"
+        )
     rest, status = runner.script.ends()
     for line in rest:
         console.raw(line)

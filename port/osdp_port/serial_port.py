@@ -1,4 +1,5 @@
-"""A serial port, by pyserial: opened for this program alone, set raw, and opened again where its adapter was pulled."""
+"""A serial port, by pyserial: opened for this program alone, set raw, and opened again where its adapter was
+pulled."""
 import errno
 import fcntl
 import os
@@ -15,13 +16,18 @@ except ImportError:
     serial = None
 
 RATES = (9600, 19200, 38400, 57600, 115200, 230400)  # those of the standard
-PIECE = 2048  # how many bytes a read takes at most: a line to `osdp` has 8,192 characters at most, and a byte two of them
+# how many bytes a read takes at most: a line to `osdp` has 8,192 characters at most, and a byte two of them
+PIECE = 2048
+MOST = 32 * PIECE  # how many bytes are read in a turn at most
 AGAIN = 0.5  # after how many seconds a port that isn't there is tried again
 LONGEST_AGAIN = 30.0  # .. one that was back and gone again each time, so that no log is filled by it
-TELLS = 2  # a cause that keeps it from being opened is told where it has done so this often: the system may give a new port its rights a moment later
+# a cause that keeps it from being opened is told where it has done so this often: the system may give a new
+# port its rights a moment later
+TELLS = 2
 STAYS = 10.0  # after how many seconds a port that is back is there to stay
 FAULTS = (OSError, ValueError, NotImplementedError, termios.error)  # what pyserial raises
-SERVER = re.compile(r"(?:rfc2217|socket)://(?:\[[^]]+\]|[^:/\s]+):[0-9]{1,5}(?:[/?].*)?")  # a port that a server has
+# a port that a server has
+SERVER = re.compile(r"(?:rfc2217|socket)://(?:\[[^]]+\]|[^:/\s]+):[0-9]{1,5}(?:[/?].*)?")
 STOLEN_AGAIN = 10.0  # after how many seconds it is told again that bytes were taken
 
 
@@ -41,7 +47,8 @@ def sets_rate(path):
 
 
 def has_taken(made, rate):
-    """Whether an opened port has this rate, as far as the system tells: an adapter may take another one without a fault."""
+    """Whether an opened port has this rate, as far as the system tells: an adapter may take another one
+    without a fault."""
     try:
         return termios.tcgetattr(made.fileno())[5] == getattr(termios, f"B{rate}")
     except (OSError, termios.error, AttributeError):
@@ -55,7 +62,8 @@ def refusal(path, error):
         return f"{path} names no port of a server: rfc2217://HOST:PORT or socket://HOST:PORT"
     if "exclusively lock" in str(error) or cause in (16, 11):
         owners = holders(path)
-        return f"{path} is in use by {' and '.join(owners) if owners else 'another program, which this user may not see'}: end it first"
+        whose = " and ".join(owners) if owners else "another program, which this user may not see"
+        return f"{path} is in use by {whose}: end it first"
     if cause == 13:
         return f"{path}: no permission: add yourself to dialout (sudo adduser $USER dialout) and log in again"
     if cause == 2:
@@ -65,13 +73,20 @@ def refusal(path, error):
     return f"{path} can't be opened: {os.strerror(cause) if isinstance(cause, int) and cause else error}"
 
 
+def pieces(read):
+    """What was read, in pieces that a line to `osdp` has room for."""
+    return [read[at:at + PIECE] for at in range(0, len(read), PIECE)]
+
+
 class Port:
     """The port, and what it lost. `tell` gets the lines of what happens to it."""
 
     def __init__(self, path, rate, tell=lambda line: None):
         needs_pyserial()
         if not has_rate(rate):
-            raise Stop(f"{path} has no rate {rate}: try {', '.join(map(str, RATES[:-1]))} or {RATES[-1]}", BAD_WORDS)
+            raise Stop(
+                f"{path} has no rate {rate}: try {', '.join(map(str, RATES[:-1]))} or {RATES[-1]}", BAD_WORDS
+            )
         self.path, self.rate, self.tell = path, rate, tell
         self.serial, self.tries_at, self.told_stolen = None, 0.0, -STOLEN_AGAIN
         self.taken = set()  # rates that it has taken since it was opened
@@ -89,7 +104,8 @@ class Port:
         return self.serial is not None
 
     def open(self):
-        """Opens the port, for this program alone: other programs are refused by a lock, and, but for root, by the system."""
+        """Opens the port, for this program alone: other programs are refused by a lock, and, but for root, by
+        the system."""
         made = serial.serial_for_url(self.path, self.rate, timeout=0, do_not_open=True)
         if "://" not in self.path:
             made.exclusive = True
@@ -140,7 +156,9 @@ class Port:
         self.again = min(2 * self.again, LONGEST_AGAIN) if now < self.back_at + STAYS else AGAIN
         self.serial, self.tries_at = None, now + self.again
         self.causes = {errno.ENOENT: TELLS}
-        self.tell(f"pulled {self.path}" + (": it is opened again as soon as it is back" if self.is_awaited else ""))
+        self.tell(
+            f"pulled {self.path}" + (": it is opened again as soon as it is back" if self.is_awaited else "")
+        )
 
     def comes_back(self):
         """Tries to open a port that was pulled. Whether it is back."""
@@ -156,7 +174,8 @@ class Port:
         return False
 
     def tell_cause(self, error):
-        """Tells why a port that was pulled can't be opened again, each cause once. That it isn't there was told, and what is over at the next try isn't."""
+        """Tells why a port that was pulled can't be opened again, each cause once. That it isn't there was
+        told, and what is over at the next try isn't."""
         cause = getattr(error, "errno", None) or str(error)
         self.causes[cause] = self.causes.get(cause, 0) + 1
         if self.causes[cause] == TELLS:
@@ -177,12 +196,20 @@ class Port:
             tap.came(read)
         return read
 
+    def read_all(self):
+        """All bytes that have come, up to a bound."""
+        read = b""
+        while len(read) < MOST and (piece := self.read()):
+            read += piece
+        return read
+
     def read_some(self):
         if self.serial is None:
             return b""
         read = b""
         try:
-            while len(read) < PIECE and (piece := self.serial.read(PIECE - len(read))):  # a port of RFC 2217 gives one byte at a time
+            # a port of RFC 2217 gives one byte at a time
+            while len(read) < PIECE and (piece := self.serial.read(PIECE - len(read))):
                 read += piece
         except (OSError, TypeError, ValueError):
             if not read:  # else the next read tells
@@ -196,7 +223,10 @@ class Port:
         elif time.monotonic() - self.told_stolen >= STOLEN_AGAIN:
             self.told_stolen = time.monotonic()
             found = self.others()
-            self.tell(f"bytes taken from {self.path} by {' and '.join(found) if found else 'another program'}: end it")
+            self.tell(
+                f"bytes taken from {self.path} by {' and '.join(found) if found else 'another program'}:"
+                " end it"
+            )
 
     def write(self, burst):
         if self.serial is None:
@@ -210,7 +240,8 @@ class Port:
             tap.sent(burst)
 
     def set_rate(self, rate):
-        """Sets another rate. What was written goes out before, at the old one. Whether the port has taken it, or will when it is back; else it stays as it is."""
+        """Sets another rate. What was written goes out before, at the old one. Whether the port has taken it,
+        or will when it is back; else it stays as it is."""
         if not self.may_have(rate):
             return False
         try:
@@ -229,7 +260,8 @@ class Port:
         return True
 
     def can_have(self, rate):
-        """Whether the port can be set to this rate. Where that isn't known it is set to it, and back: so no device is sent to a rate at which it isn't found."""
+        """Whether the port can be set to this rate. Where that isn't known it is set to it, and back: so no
+        device is sent to a rate at which it isn't found."""
         before = self.rate
         if rate not in self.taken and self.set_rate(rate) and not self.set_rate(before):
             self.rate = before

@@ -1,4 +1,5 @@
-"""What goes over the line, as `osdp show` prints it: each line with its moment; POLL and ACK, and other devices, may be left out."""
+"""What goes over the line, as `osdp show` prints it: each line with its moment; POLL and ACK, and other
+devices, may be left out."""
 import re
 import threading
 from collections import deque
@@ -8,7 +9,8 @@ from .program import Stream
 
 LINE = re.compile(r"(\d+):(\d+) (.*)")
 OF_DEVICE = re.compile(r"(?:cmd|reply) (\d+) ")
-HOPELESS = 1000  # so many bytes with nothing but skips and refusals are of another rate, or no bytes of the line
+# so many bytes with nothing but skips and refusals are of another rate, or no bytes of the line
+HOPELESS = 1000
 
 
 class Shown(Stream):
@@ -16,7 +18,8 @@ class Shown(Stream):
 
     def __init__(self, path, console, address=None, is_all=False):
         self.address, self.is_all = address, is_all
-        self.runs, self.first = deque(), 1  # the moments of the runs whose lines may come, and the number of the first one
+        # the moments of the runs whose lines may come, and the number of the first one
+        self.runs, self.first = deque(), 1
         self.bytes = self.packets = 0
         self.is_hopeless = False  # whether that was told: once
         self.lock = threading.Lock()
@@ -43,7 +46,10 @@ class Shown(Stream):
         self.packets += bool(device)
         if self.packets == 0 and self.bytes >= HOPELESS and not self.is_hopeless:
             self.is_hopeless = True
-            self.console.note(f"{self.bytes} bytes and no packet: another rate, or the two wires are swapped; osdp-port PORT RATE find tells the rate")
+            self.console.note(
+                f"{self.bytes} bytes and no packet: another rate, or the two wires are swapped; osdp-port"
+                " PORT RATE find tells the rate"
+            )
         if self.address is not None and (not device or int(device[1]) != self.address):
             return
         if self.is_all or not text.endswith((" POLL", " ACK")):

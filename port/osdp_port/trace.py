@@ -1,12 +1,15 @@
-"""Traces: files to which each burst is appended, as lines of digits for `osdp show`, or as lines of `.osdpcap`. A file that is full is put aside.
+"""Traces: files to which each burst is appended, as lines of digits for `osdp show`, or as lines of
+`.osdpcap`. A file that is full is put aside.
 
-And the lines of a test, in a file that is begun anew. Where either file can't be written, what it is beside goes on, and the end tells."""
+And the lines of a test, in a file that is begun anew. Where either file can't be written, what it is beside
+goes on, and the end tells."""
 import errno
 import json
 import os
 import time
 
 from .faults import Stop
+from .keep import private
 
 GAP = 0.02  # after how many seconds of silence a burst is over
 
@@ -23,7 +26,7 @@ def begun(path):
         with open(path, "rb") as file:
             if file.read(10).startswith((b"# rate ", b'{"timeSec"')):
                 raise Stop(f"{path} has a trace of a line, which a test would begin anew: name another file")
-    return open(path, "w", encoding="utf-8")
+    return open(path, "w", encoding="utf-8", opener=private)
 
 
 class Record:
@@ -58,12 +61,24 @@ def rate_line(rate):
 def osdpcap(since, way, burst):
     """A burst as an object of a line, as other tools of OSDP read it."""
     whole = int(since * 1000000)
-    return json.dumps({"timeSec": str(whole // 1000000), "timeNano": f"{whole % 1000000 * 1000:09}", "io": {"in": "input", "out": "output"}.get(way, "trace"),
-                       "data": burst.hex("-").upper(), "osdpTraceVersion": "1", "osdpSource": "osdp-port"}) + "\n"
+    return (
+        json.dumps(
+            {
+                "timeSec": str(whole // 1000000),
+                "timeNano": f"{whole % 1000000 * 1000:09}",
+                "io": {"in": "input", "out": "output"}.get(way, "trace"),
+                "data": burst.hex("-").upper(),
+                "osdpTraceVersion": "1",
+                "osdpSource": "osdp-port",
+            }
+        )
+        + "\n"
+    )
 
 
 class Bursts:
-    """Puts together the bytes that come with less than the gap between them. `takes` gets each whole burst: its first moment, its way and its bytes."""
+    """Puts together the bytes that come with less than the gap between them. `takes` gets each whole burst:
+    its first moment, its way and its bytes."""
 
     def __init__(self, takes, way="in"):
         self.takes, self.way = takes, way
@@ -88,9 +103,11 @@ class Bursts:
 
 
 class Trace:
-    """A file of bursts. At `size` bytes it is renamed to FILE.1, in the place of the one before, and begun anew.
+    """A file of bursts. At `size` bytes it is renamed to FILE.1, in the place of the one before, and begun
+    anew.
 
-    Lines of digits have the line's rate above them, once and after each new one. `rate` tells it, and may tell none."""
+    Lines of digits have the line's rate above them, once and after each new one. `rate` tells it, and may
+    tell none."""
 
     def __init__(self, path, size, tell, form=digits, rate=lambda: None):
         self.path, self.size, self.tell, self.form, self.rate = path, size, tell, form, rate
@@ -102,7 +119,7 @@ class Trace:
 
     def open(self):
         self.named = None  # the rate that this file has told last
-        self.file = open(self.path, "a", encoding="ascii")
+        self.file = open(self.path, "a", encoding="ascii", opener=private)
 
     def is_moved(self):
         """Whether the file has another name now, or none, as where a program puts logs aside."""

@@ -1,5 +1,7 @@
 #!/usr/bin/env python3
-"""A panel that opens a door for two cards: door_panel.py PORT RATE. The door is the device at address 5. What it reports is printed.
+"""A panel that opens a door for two cards: door_panel.py [--late MS] PORT RATE. The door is the device at address 5. What it reports is printed.
+
+Where the program stood still for more than MS milliseconds, 5000 if not said, no order and no card of before opens the door: it lets the session end.
 
 It stands beside the folder `examples`, of which it takes the port. It needs the package osdp on PYTHONPATH, or the folder above this one."""
 import sys
@@ -12,7 +14,8 @@ try:
     import osdp  # noqa: E402
 except ImportError as error:
     sys.exit(str(error))
-from lines import BAD_WORDS, Lines, moment, number, stop, take_words, tell  # noqa: E402
+from lines import BAD_WORDS, Lines, number, stop, take_words, tell  # noqa: E402
+from moments import moment  # noqa: E402
 from port import Port  # noqa: E402
 
 CARDS = (bytes.fromhex("12345640"), bytes.fromhex("65432180"))
@@ -25,15 +28,17 @@ def may_enter(card):
     return card.bits == 26 and card.data in CARDS
 
 
-def take_reports(panel, door, now):
-    """Takes what the panel reports. The moment at which the next session begins, where one has ended."""
+def take_reports(panel, door, now, is_old):
+    """Takes what the panel reports. `is_old` tells whether a card may be of long ago. The moment at which the next session begins, where one has ended."""
     begins = None
     for report in panel.reports():
         tell(f"{report.kind.name.lower()} {report.command or ''} {report.reply or ''}".strip())
         if report.kind in (osdp.Kind.LOST, osdp.Kind.MOVED):
             begins = now + PAUSE
         card = report.reply.card() if report.kind is osdp.Kind.EVENT else None
-        if card and may_enter(card) and not report.maybe_again:  # one that may have been told before makes no second order
+        if card and is_old():
+            tell("too old: the door stays closed")
+        elif card and may_enter(card) and not report.maybe_again:  # one that may have been told before makes no second order
             try:
                 panel.submit(door, STRIKE)
             except osdp.OsdpError as error:
@@ -52,8 +57,8 @@ def main():
     path, rate, *more = take_words(__doc__, 2)
     if more:
         stop("bad words: --help tells the right ones", BAD_WORDS)
-    port, lines, panel = Port(path, number(rate, "rate")), Lines(), osdp.Panel(poll_between_orders=1)  # a card waits for no orders
-    door, begins = panel.add(5), 0
+    port, lines, panel = Port(path, number(rate, "rate")), Lines(), osdp.Panel()
+    door, begins, is_left = panel.add(5), 0, False  # `is_left`: nothing is sent to the door, so that its session ends
     while True:
         if begins is not None and begins <= moment():
             while panel.withdraw(door):  # orders of long ago open no door
@@ -64,12 +69,20 @@ def main():
         read, typed = port.wait(lines, max(min(until) - moment(), 0) / 1000 if until else None)
         for _ in typed:
             tell("refused line")
-        now = moment_for(panel)  # after the read: not before it
-        panel.hear(read, now)
-        ended = take_reports(panel, door, now)
-        port.write(panel.tick(now))
-        ended = take_reports(panel, door, now) or ended
-        begins = begins if ended is None else ended
+        now = port.turns.now  # after the wait, and before the read
+        panel.set_moment(now)
+        panel.hear(b"".join(read), now)
+        is_left = is_left or port.turns.stood_still
+
+        def is_old(is_left=is_left):
+            return is_left or port.turns.is_late()
+
+        ended = take_reports(panel, door, now, is_old)
+        burst = panel.tick(now)
+        if not is_left:
+            port.write(burst)
+        ended = take_reports(panel, door, now, is_old) or ended
+        begins, is_left = (begins, is_left and begins is None) if ended is None else (ended, False)
 
 
 if __name__ == "__main__":

@@ -1,5 +1,6 @@
 #!/usr/bin/env python3
-"""A panel and a device in memory, in time that this program sets: a session opens, an order is done, and an event is told."""
+"""A panel and a device in memory, in time that this program sets: a session opens, an order is done, and an
+event is told."""
 import sys
 from pathlib import Path
 
@@ -12,7 +13,8 @@ except ImportError as error:
 
 
 def exchange(panel, device, now):
-    """What the panel has to say goes to the device, and what that says goes back. The commands that the device is to do."""
+    """What the panel has to say goes to the device, and what that says goes back. The commands that the
+    device is to do."""
     orders = []
     for answer in device.hear(panel.tick(now), now):
         if answer.order is osdp.Order.ONCE:

@@ -1,11 +1,13 @@
 """Panel, device and monitor of an OSDP line, over the machines that are proved in Rattle, for test benches.
 
-What is proved is the shared library; this package is ordinary Python over it, by ctypes. Nothing here reads, writes, sleeps or keeps a clock: the program
-reads its port, hands in the bytes and the moment, and writes the bytes that it is given. Moments and times are whole milliseconds, of any clock that doesn't
-go backwards. docs/GUIDE.md says what a panel and a device do, and what each report asks for.
+What is proved is the shared library; this package is ordinary Python over it, by ctypes. Nothing here reads,
+writes, sleeps or keeps a clock: the program reads its port, hands in the bytes and the moment, and writes the
+bytes that it is given. Moments and times are whole milliseconds, of any clock that doesn't go backwards.
+docs/GUIDE.md says what a panel and a device do, and what each report asks for.
 
-A refused call raises OsdpError, and each docstring names the statuses that it may have. NO_MACHINE is a call after `close`. A number that the library can't be
-handed, since it is negative or too great, raises ValueError.
+A refused call raises OsdpError, and each docstring names the statuses that it may have. NO_MACHINE is a call
+after `close`. A number that the library can't be handed, since it is negative or too great, raises
+ValueError.
 
     panel = osdp.Panel()
     door = panel.add(5)
@@ -16,14 +18,28 @@ handed, since it is negative or too great, raises ValueError.
         print(report.kind.name, report.command, report.reply)
     port.write(panel.tick(now))
 """
-from ._library import OsdpError, Status, library_version
+from ._library import VERSION, OsdpError, Status, library_version
 from .device import Answer, Device, Expired, Order, Said
 from .message import Card, Message
 from .monitor import Monitor, Prints
 from .panel import Cause, Kind, Panel, Report
 
 __all__ = [
-    "Answer", "Card", "Cause", "Device", "Expired", "Kind", "Message", "Monitor", "Order", "OsdpError", "Panel", "Prints", "Report", "Said", "Status",
+    "Answer",
+    "Card",
+    "Cause",
+    "Device",
+    "Expired",
+    "Kind",
+    "Message",
+    "Monitor",
+    "Order",
+    "OsdpError",
+    "Panel",
+    "Prints",
+    "Report",
+    "Said",
+    "Status",
     "library_version",
 ]
-__version__ = "0.1.0"
+__version__ = VERSION

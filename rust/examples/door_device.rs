@@ -1,13 +1,13 @@
-//! A device with two outputs: `door_device [--keep FILE] PORT RATE`, at address 5, or where the file has it after a COMSET. A line `card 12345640` is a card.
+//! A device with two outputs: `door_device [--keep FILE [--new]] PORT RATE`, at address 5, or where the file has it after a COMSET. A line `card 12345640` is a card.
 //! Each output that is switched on is printed, and so is a card that was too old.
 mod port;
 
 use osdp::{
-    Answer, Card, Command, Device, DeviceAnswer, DeviceConfig, NakReason, Order, Output, Reply,
-    card, output,
+    Answer, Card, Command, Device, DeviceAnswer, DeviceConfig, Moment, NakReason, Order, Output,
+    Reply, card, output,
 };
-use port::device::{Said, let_go, take_turn};
-use port::{Came, Port, run_on_port};
+use port::device::{Said, is_too_old, let_go, take_turn};
+use port::{Keeps, Port, run_on_port, tell};
 use std::error::Error;
 use std::process::ExitCode;
 use std::time::Duration;
@@ -38,13 +38,14 @@ fn card_of(line: &str) -> Option<Reply> {
 type Done = Result<(), Box<dyn Error>>;
 
 /// Acts, and then sends the answer: so what is answered was done, also where power is lost in between. What is to be said to a command that waits for it.
-fn obey(answer: Answer<'_>, port: &mut Port) -> Said {
+fn obey(answer: Answer<'_>, port: &mut Port, now: Moment) -> Said {
     if let Some(Order::Once(command)) = answer.order() {
         let opens = |record: &Output| record.control == output::ON_FOR_A_TIME;
-        let on = command.outputs().filter(opens);
-        on.for_each(|record| println!("on {}", record.output));
+        for record in command.outputs().filter(opens) {
+            tell(format_args!("on {}", record.output))?;
+        }
     }
-    match port.send(answer)? {
+    match port.send(answer, now)? {
         Some(Order::Pending(command)) => Ok(decide(&command)),
         _ => Ok(None),
     }
@@ -60,22 +61,24 @@ fn run(mut port: Port) -> Done {
     let mut device = start(port.address(5)?)?;
     loop {
         let came = port.wait(port.now() + TURN)?;
-        let now = port.now(); // after the read: not before it
+        let now = came.now;
         let_go(&mut device, now, TOO_OLD)?; // before anything is heard: so a panel that is back gets no card of long ago
-        if let Came::Line(line) = &came
-            && card_of(line).is_none_or(|card| device.submit_event(&card).is_err())
-        {
-            println!("refused line");
+        for line in &came.lines {
+            match card_of(line) {
+                Some(_) if is_too_old(&came, line)? => {}
+                Some(card) if device.submit_event(&card).is_ok() => {}
+                _ => tell("refused line")?,
+            }
         }
-        take_turn(&mut device, came.bytes(), now, |answer| {
-            obey(answer, &mut port)
+        take_turn(&mut device, &came.bytes, now, |answer| {
+            obey(answer, &mut port, now)
         })?;
         port.starts_anew(&mut device, start)?;
     }
 }
 
 fn main() -> ExitCode {
-    run_on_port("door_device", true, run)
+    run_on_port("door_device", Keeps::Places, run)
 }
 
 #[test]

@@ -1,10 +1,10 @@
-//! A panel that opens a door for two cards: `door_panel [--keep FILE] PORT RATE`. The door is the device at address 5. What it reports is printed. A line
-//! `move 7 9600` gives the device another address and rate, which FILE keeps: a panel that starts again finds it there.
+//! A panel that opens a door for two cards: `door_panel [--keep FILE [--new]] PORT RATE`. The door is the device at address 5. What it reports is printed. A line
+//! `move 7 9600` gives the device another address and rate, which FILE keeps: a panel that starts again finds it there. `--new` makes FILE.
 mod port;
 
 use osdp::{Card, Command, Error, Moment, Output, Panel, PanelConfig, Reply, Report, output};
 use port::door::Door;
-use port::{Came, Port, run_on_port};
+use port::{Keeps, Port, run_on_port, tell};
 use std::process::ExitCode;
 use std::time::Duration;
 
@@ -29,7 +29,7 @@ type Done = Result<(), Box<dyn std::error::Error>>;
 /// Takes what the panel reports, and does what is to be done about it.
 fn take_reports(panel: &mut Panel, door: &mut Door, now: Moment) -> Done {
     while let Some((_, report)) = panel.next_report() {
-        println!("{report:?}");
+        tell(format_args!("{report:?}"))?;
         door.heed(&report, now)?;
         // a card that may have been told before makes no second order
         if let Report::Event {
@@ -49,32 +49,32 @@ fn take_reports(panel: &mut Panel, door: &mut Door, now: Moment) -> Done {
 }
 
 fn run(mut port: Port) -> Done {
-    let mut panel = Panel::new(&PanelConfig {
-        poll_between_orders: true, // a card waits for no orders
-        ..PanelConfig::default()
-    })?;
+    let mut panel = Panel::new(&PanelConfig::default())?;
     let mut door = Door::add(&mut panel, &port, 5)?;
     loop {
         let until = door.site.wait_until(&panel, port.now() + TURN);
         let came = port.wait(until)?;
-        let now = port.now(); // after the read: not before it
-        match &came {
-            Came::Bytes(bytes) => panel.on_bytes(bytes, now)?,
-            Came::Line(line) if door.take_line(&mut panel, line)? => {}
-            Came::Line(line) => println!("refused line {line}"),
-            Came::Nothing => {}
+        let now = came.now;
+        if came.stood_still {
+            door.leave(); // a card, or an order, of before would open the door now
         }
+        panel.set_moment(now); // also where the program was stopped for more than a day
+        panel.on_bytes(&came.bytes, now)?;
         take_reports(&mut panel, &mut door, now)?;
+        for line in &came.lines {
+            if !door.take_line(&mut panel, line)? {
+                tell(format_args!("refused line {line}"))?;
+            }
+        }
         door.begin(&mut panel, &mut port, now)?;
-        panel
-            .tick(now)?
-            .send(|burst| door.write(&mut port, burst))?;
+        let unsent = panel.tick(now)?;
+        unsent.send(|burst| door.write(&mut port, burst, now))?;
         take_reports(&mut panel, &mut door, now)?;
     }
 }
 
 fn main() -> ExitCode {
-    run_on_port("door_panel", true, run)
+    run_on_port("door_panel", Keeps::Places, run)
 }
 
 #[test]

@@ -1,4 +1,4 @@
-//! A device with a card reader, a keypad and a relay: `keypad_reader [--keep FILE] PORT RATE`, at address 1, or where the file has it after a COMSET. A line
+//! A device with a card reader, a keypad and a relay: `keypad_reader [--keep FILE [--new]] PORT RATE`, at address 1, or where the file has it after a COMSET. A line
 //! `RAW 0 0 26 12345640` is a card, `KEYPAD 0 31323334` are keys, and `ISTATR 01` the door's contact. The relay, output 0, is on for the time that is ordered. LED
 //! and buzzer are told as they are ordered.
 mod port;
@@ -6,9 +6,10 @@ mod port;
 use osdp::{
     Answer, Command, Device, DeviceAnswer, DeviceConfig, Moment, NakReason, Order, Output, output,
 };
-use port::device::{Said, let_go, take_turn};
-use port::{Came, Port, run_on_port};
+use port::device::{Said, is_too_old, let_go, take_turn};
+use port::{Keeps, Port, run_on_port, tell};
 use std::error::Error;
+use std::io;
 use std::process::ExitCode;
 use std::time::Duration;
 
@@ -38,9 +39,12 @@ struct Reader {
 }
 
 impl Reader {
-    fn switch(&mut self, ends: Option<Moment>) {
+    fn switch(&mut self, ends: Option<Moment>) -> io::Result<()> {
         self.relay = ends;
-        println!("relay {}", if ends.is_some() { "on" } else { "off" });
+        tell(match ends {
+            Some(_) => "relay on",
+            None => "relay off",
+        })
     }
 
     /// Acts, and then sends the answer: so what is answered was done. What is to be said to a command that waits for it.
@@ -49,13 +53,13 @@ impl Reader {
             for record in command.outputs() {
                 let time = Duration::from_millis(100) * u32::from(record.timer);
                 let on = record.control == output::ON_FOR_A_TIME && record.timer > 0; // a timer of 0 ends it
-                self.switch(on.then_some(now + time));
+                self.switch(on.then_some(now + time))?;
             }
             if command.outputs().next().is_none() {
-                println!("{command}");
+                tell(command)?;
             }
         }
-        match self.port.send(answer)? {
+        match self.port.send(answer, now)? {
             Some(Order::Pending(command)) => Ok(decide(&command)),
             _ => Ok(None),
         }
@@ -85,20 +89,21 @@ fn start(address: u8, contact: u8) -> Result<Device, osdp::Error> {
 fn run(mut port: Port) -> Done {
     let (mut device, mut contact) = (start(port.address(1)?, 0)?, 0);
     let mut reader = Reader { port, relay: None };
-    reader.switch(None); // the program before this one may have left it on
+    reader.switch(None)?; // the program before this one may have left it on
     loop {
         let came = reader.port.wait(reader.port.now() + TURN)?;
-        let now = reader.port.now(); // after the read: not before it
+        let now = came.now;
         let_go(&mut device, now, TOO_OLD)?; // before anything is heard: so a panel that is back gets no card of long ago
         if reader.relay.is_some_and(|ends| ends <= now) {
-            reader.switch(None);
+            reader.switch(None)?;
         }
         device.set_outputs(&[reader.relay.is_some().into()])?;
-        if let Came::Line(line) = &came {
-            let taken = take_line(&mut device, &mut contact, line);
-            taken.unwrap_or_else(|_| println!("refused line"));
+        for line in &came.lines {
+            if !is_too_old(&came, line)? && take_line(&mut device, &mut contact, line).is_err() {
+                tell("refused line")?;
+            }
         }
-        take_turn(&mut device, came.bytes(), now, |answer| {
+        take_turn(&mut device, &came.bytes, now, |answer| {
             reader.obey(answer, now)
         })?;
         let start = |address| start(address, contact);
@@ -108,7 +113,7 @@ fn run(mut port: Port) -> Done {
 
 fn main() -> ExitCode {
     // However it ends, the relay goes off: nobody else would switch it.
-    run_on_port("keypad_reader", true, |port| {
-        run(port).inspect_err(|_| println!("relay off"))
+    run_on_port("keypad_reader", Keeps::Places, |port| {
+        run(port).inspect_err(|_| drop(tell("relay off")))
     })
 }

@@ -3,6 +3,7 @@ use osdp::{
     Capability, Card, Command, Device, DeviceConfig, Error, Moment, Order, Output, Panel,
     PanelConfig, PdId, Product, Reply, Report, Step, card, function, output,
 };
+use std::io::{self, Write};
 use std::time::Duration;
 
 /// A card of 26 bits.
@@ -60,6 +61,11 @@ fn device_hears(
     }
 }
 
+/// Prints a line. That nobody reads it is no fault.
+fn tell(line: &str) {
+    let _ = writeln!(io::stdout(), "{line}");
+}
+
 fn main() -> Result<(), Error> {
     let mut panel = Panel::new(&PanelConfig::default())?;
     let door = panel.add(5)?;
@@ -90,7 +96,7 @@ fn main() -> Result<(), Error> {
         panel.on_bytes(&std::mem::take(&mut line.bytes), now)?;
         while let Some((entry, report)) = panel.next_report() {
             match report {
-                Report::Opened(id) => println!("opened by {id:?}"),
+                Report::Opened(id) => tell(&format!("opened by {id:?}")),
                 Report::Event {
                     event: told,
                     maybe_again: false,
@@ -118,10 +124,10 @@ fn main() -> Result<(), Error> {
                 .max(now);
         }
     }
-    println!(
+    tell(&format!(
         "{cards} cards, {opened} times opened, {settled} settled, {} answers",
         line.answers
-    );
+    ));
     assert_eq!((cards, opened, settled), (CARDS, CARDS, CARDS));
 
     assert_eq!(

@@ -6,7 +6,8 @@ use osdp::{
     Card, Command, EntryNumber, Moment, Panel, PanelConfig, Presence, Reply, Report, Site, color,
     state,
 };
-use port::{Came, Port, run_on_port};
+use port::door::take_back;
+use port::{Keeps, Port, run_on_port, tell};
 use std::error::Error;
 use std::process::ExitCode;
 use std::time::Duration;
@@ -44,10 +45,7 @@ struct Doors {
 
 impl Doors {
     fn new(now: Moment) -> Result<Doors, Box<dyn Error>> {
-        let mut panel = Panel::new(&PanelConfig {
-            poll_between_orders: true, // a card waits for no orders
-            ..PanelConfig::default()
-        })?;
+        let mut panel = Panel::new(&PanelConfig::default())?;
         let mut site = Site::new(&panel, now);
         for address in (1..).take(DOORS) {
             let door = panel.add(address)?;
@@ -83,7 +81,7 @@ impl Doors {
     fn take_reports(&mut self, now: Moment) -> Done {
         while let Some((door, report, change)) = self.site.next_report(&mut self.panel, now) {
             if let Some(presence) = change {
-                println!("door {} is {presence:?}", door.index() + 1);
+                tell(format_args!("door {} is {presence:?}", door.index() + 1))?;
             }
             if let Some(Presence::Online(_)) = change {
                 let asks = Command::input_status();
@@ -102,6 +100,7 @@ impl Doors {
                 | Report::Settled(_, Reply::Inputs(states)) => {
                     self.take_contact(door, &states, now)?
                 }
+                Report::Lost(_, order) => take_back(&mut self.panel, door, order)?,
                 _ => {}
             }
         }
@@ -126,21 +125,27 @@ fn run(mut port: Port) -> Done {
     loop {
         let until = doors.site.wait_until(&doors.panel, port.now() + TURN);
         let came = port.wait(until)?;
-        let now = port.now(); // after the read: not before it
-        match &came {
-            Came::Bytes(bytes) => doors.panel.on_bytes(bytes, now)?,
-            Came::Line(line) => println!("refused line {line}"),
-            Came::Nothing => {}
+        let now = came.now;
+        for line in &came.lines {
+            tell(format_args!("refused line {line}"))?;
+        }
+        doors.site.on_bytes(&mut doors.panel, &came.bytes, now)?;
+        if came.stood_still {
+            doors.site.leave(); // a card, or an order, of before would open a door now
         }
         doors.take_reports(now)?;
         doors.watch(now)?;
         doors.site.act(&mut doors.panel, now)?;
-        let unsent = doors.panel.tick(now)?;
-        unsent.send(|burst| port.write(burst))?;
+        let mut is_written = true;
+        let unsent = doors.site.tick(&mut doors.panel, now)?;
+        unsent.send(|burst| port.write(burst, now).map(|it| is_written = it))?;
+        if !is_written {
+            doors.site.leave(); // it is late: an order would go out late
+        }
         doors.take_reports(now)?;
     }
 }
 
 fn main() -> ExitCode {
-    run_on_port("three_doors", false, run)
+    run_on_port("three_doors", Keeps::Nothing, run)
 }

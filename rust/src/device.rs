@@ -204,6 +204,7 @@ unsafe impl Send for Device {}
 
 /// An answer to a command. One that doesn't belong to the command goes out as NAK 9.
 #[derive(Clone, Copy, Debug, PartialEq, Eq)]
+#[non_exhaustive]
 pub enum DeviceAnswer<'a> {
     /// An ACK, for OUT, LED, BUZ, TEXT and MFG: the command is done.
     Done,

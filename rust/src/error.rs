@@ -31,8 +31,7 @@ pub enum Error {
     OutOfRange,
     /// The address of a COMSET is 127 or above, which no device has.
     AddressOutOfRange,
-    /// As many commands or events wait as there is room for, or there is no room for the bytes of this one. With `poll_between_orders` also a COMSET that
-    /// would have to wait for a POLL: order it again later.
+    /// As many commands or events wait as there is room for, or there is no room for the bytes of this one.
     Full,
     /// The command is a POLL, which the panel sends by itself.
     PollSubmitted,

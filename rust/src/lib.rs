@@ -7,10 +7,12 @@
 //! use core::time::Duration;
 //! use osdp::{Card, Command, EntryNumber, Error, Moment, Panel, PanelConfig, Reply, Report, Site, color};
 //!
-//! # fn read(_: &mut [u8], _: Moment) -> usize { 0 }
+//! # fn wait(_: Moment) {}
+//! # fn read_all(_: &mut [u8]) -> usize { 0 }
 //! # fn write(_: &[u8]) -> Result<(), Error> { Ok(()) }
 //! # fn now() -> Moment { Moment::from_millis(0) }
 //! const TURN: Duration = Duration::from_millis(100); // how long it waits at most
+//! const LATE: Duration = Duration::from_secs(5); // how late a burst may be
 //!
 //! fn may_enter(card: &Card) -> bool {
 //!     (card.bits(), card.bytes()) == (26, &[0x12, 0x34, 0x56, 0x40])
@@ -39,14 +41,21 @@
 //! site.wants(door, &Command::color(color::RED)?)?; // also when the door comes back
 //! let mut bytes = [0; 256];
 //! loop {
-//!     let until = site.wait_until(&panel, now() + TURN);
-//!     let count = read(&mut bytes, until); // waits for bytes, at most until that moment
-//!     let now = now();
-//!     panel.on_bytes(&bytes[..count], now)?;
-//!     take_reports(&mut panel, &mut site, now)?;
-//!     site.act(&mut panel, now)?;
-//!     panel.tick(now)?.send(|burst| write(burst))?;
-//!     take_reports(&mut panel, &mut site, now)?;
+//!     wait(site.wait_until(&panel, now() + TURN)); // for bytes, at most until that moment
+//!     let moment = now();
+//!     let count = read_all(&mut bytes); // all that is there
+//!     site.on_bytes(&mut panel, &bytes[..count], moment)?; // where the program stood still they are left, and sessions are let end
+//!     take_reports(&mut panel, &mut site, moment)?;
+//!     site.act(&mut panel, moment)?;
+//!     let mut is_late = false;
+//!     site.tick(&mut panel, moment)?.send(|burst| {
+//!         is_late = now().since(moment) > LATE; // an order would go out late
+//!         if is_late { Ok(()) } else { write(burst) }
+//!     })?;
+//!     if is_late {
+//!         site.leave();
+//!     }
+//!     take_reports(&mut panel, &mut site, moment)?;
 //! }
 //! # }
 //! ```
@@ -54,6 +63,7 @@
 //! The crate is `no_std`. With the feature `heap`, which is on by default, the machines take memory of the program's global allocator. Without it the
 //! program links a heap of its own, such as `c/heap_pool.c`.
 #![no_std]
+#![warn(missing_docs)]
 
 #[cfg(not(target_pointer_width = "64"))]
 compile_error!(
@@ -73,7 +83,7 @@ mod numbered;
 mod panel;
 mod reply_data;
 mod site;
-pub mod sys;
+mod sys;
 mod time;
 
 pub use command_fields::{CommandFields, Leds, Outputs};

@@ -7,6 +7,7 @@ use core::ptr::null_mut;
 
 /// What has a line of text. Each accusation, each notice and each refused byte has one in each case.
 #[derive(Clone, Copy, Debug, Default, PartialEq, Eq)]
+#[non_exhaustive]
 pub enum Prints {
     /// Nothing else has one.
     #[default]

@@ -37,10 +37,6 @@ pub struct PanelConfig {
     pub capacity: u32,
     /// How far a moment may lie after the greatest one seen, 1 ms to 49 days; no time stands for a day.
     pub clock_limit: Duration,
-    /// Whether a POLL asks a device for its events between two of its commands, so that commands which come as fast as they go keep none of its cards waiting.
-    /// Then a command that comes before that POLL waits in the panel; it is counted and withdrawn as any that waits. A COMSET that would have to wait so is
-    /// refused with `Full`. It takes memory for one more queue of commands for each device. By default commands go out one after the other.
-    pub poll_between_orders: bool,
 }
 
 /// A time of a setting, as the archive takes it; one that is too long is above what it takes.
@@ -70,7 +66,6 @@ impl PanelConfig {
             gap: milliseconds(self.gap),
             capacity: self.capacity,
             clock_limit: limit(self.clock_limit)?,
-            poll_between_orders: self.poll_between_orders.into(),
         })
     }
 }
@@ -94,7 +89,6 @@ impl Default for PanelConfig {
             gap: Duration::from_millis(config.gap.into()),
             capacity: config.capacity,
             clock_limit: Duration::from_millis(config.clock_limit.into()),
-            poll_between_orders: config.poll_between_orders != 0,
         }
     }
 }
@@ -288,8 +282,8 @@ impl Panel {
         check(unsafe { sys::osdp_panel_begin(self.handle.get(), index, now.as_millis()) })
     }
 
-    /// Puts a command after those that wait for a device, whether or not its session has begun. A report says what becomes of it. A command that waits while
-    /// the session is closed goes out once a session opens, however late: `withdraw` takes it back before.
+    /// Puts a command after those that wait for a device, whether or not its session has begun. Once it was sent a report says what becomes of it. It goes out
+    /// when its turn comes, also in a later session, however late: before, `withdraw` takes it back.
     ///
     /// # Errors
     ///
@@ -328,8 +322,8 @@ impl Panel {
         })
     }
 
-    /// Takes back the command that has waited longest for a device. It won't be sent, no report tells it, and an address that it reserved is free. None where
-    /// none waits, or where the session has begun.
+    /// Takes back the command that has waited longest for a device, also while a session goes on. It won't be sent, no report tells it, and an address that it
+    /// reserved is free. None where none waits, or where a command of the device is on its way: from its first packet until a report tells what became of it.
     ///
     /// # Errors
     ///
@@ -466,10 +460,15 @@ impl Panel {
     ///
     /// `MomentTooFar`.
     pub fn tick(&mut self, now: Moment) -> Result<Unsent<'_>, Error> {
+        self.burst_at(now).map(|burst| Unsent::from_sys(&burst))
+    }
+
+    /// As `tick`: the burst that is to be sent, which is empty where there is none.
+    pub(crate) fn burst_at(&mut self, now: Moment) -> Result<sys::osdp_burst, Error> {
         let mut burst = no_burst();
         // SAFETY: the handle is ours alone, and the burst is one.
         check(unsafe { sys::osdp_panel_tick(self.handle.get(), now.as_millis(), &mut burst) })?;
-        Ok(Unsent::from_sys(&burst))
+        Ok(burst)
     }
 
     /// Sets the greatest moment seen, however far it lies after the one before: for a host that slept, after `MomentTooFar`. One that lies before the greatest

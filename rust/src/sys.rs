@@ -1,5 +1,10 @@
-//! The calls of `include/osdp.h` as they are. Each is described there. The script `tests/names.py` holds this file to the header and to the archive.
-#![allow(missing_docs, non_camel_case_types)]
+//! The calls of `include/osdp.h` as they are: all of them, also those that the crate doesn't need. Each is described there. The script `tests/names.py` holds this file to the header and to the archive.
+//! No program uses them past the crate:
+//!
+//! ```compile_fail
+//! use osdp::sys::osdp_panel;
+//! ```
+#![allow(dead_code, non_camel_case_types)]
 
 use core::ffi::{c_char, c_void};
 
@@ -206,7 +211,7 @@ structs! {
 
     /// The settings of a panel. Times are in milliseconds, 1 to 3,600,000 where nothing else is said.
     #[derive(Clone, Copy, Debug, PartialEq, Eq)]
-    osdp_panel_config, 44 {
+    osdp_panel_config, 40 {
         /// Which check the packets of the panel end with.
         check: Check,
         /// How long an answer is waited for, from the tick that gave the packet.
@@ -227,8 +232,6 @@ structs! {
         capacity: u32,
         /// How far a moment may lie after the greatest one seen; 0 stands for a day. Each number is allowed.
         clock_limit: u32,
-        /// 1 where a POLL stands between two commands of a device, else 0.
-        poll_between_orders: u32,
     }
 
     #[derive(Clone, Copy)]
@@ -389,7 +392,7 @@ structs! {
 macro_rules! calls {
     ($($name:ident($($parameter:ident: $kind:ty),*);)*) => {
         unsafe extern "C" {
-            $(pub fn $name($($parameter: $kind),*) -> osdp_status;)*
+            $(pub(crate) fn $name($($parameter: $kind),*) -> osdp_status;)*
         }
     };
 }
@@ -483,12 +486,12 @@ calls! {
 }
 
 unsafe extern "C" {
-    pub fn osdp_panel_defaults(config: *mut osdp_panel_config);
-    pub fn osdp_buzzer(buzzer: *const osdp_buzzer, command: *mut osdp_message);
-    pub fn osdp_text(text: *const osdp_text, command: *mut osdp_message);
-    pub fn osdp_id(command: *mut osdp_message);
-    pub fn osdp_cap(command: *mut osdp_message);
-    pub fn osdp_formatted(formatted: *const osdp_formatted, event: *mut osdp_message);
-    pub fn osdp_keypad(keypad: *const osdp_keypad, event: *mut osdp_message);
-    pub fn osdp_local_state(state: *const osdp_local_state, event: *mut osdp_message);
+    pub(crate) fn osdp_panel_defaults(config: *mut osdp_panel_config);
+    pub(crate) fn osdp_buzzer(buzzer: *const osdp_buzzer, command: *mut osdp_message);
+    pub(crate) fn osdp_text(text: *const osdp_text, command: *mut osdp_message);
+    pub(crate) fn osdp_id(command: *mut osdp_message);
+    pub(crate) fn osdp_cap(command: *mut osdp_message);
+    pub(crate) fn osdp_formatted(formatted: *const osdp_formatted, event: *mut osdp_message);
+    pub(crate) fn osdp_keypad(keypad: *const osdp_keypad, event: *mut osdp_message);
+    pub(crate) fn osdp_local_state(state: *const osdp_local_state, event: *mut osdp_message);
 }

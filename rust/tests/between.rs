@@ -26,10 +26,9 @@ fn carry(
 }
 
 /// How many commands are settled and how many cards told in ten seconds, where a command is ordered as soon as there is room, and a card is shown at once.
-fn ten_seconds(poll_between_orders: bool) -> Result<(usize, usize), Error> {
+fn ten_seconds() -> Result<(usize, usize), Error> {
     let mut panel = Panel::new(&PanelConfig {
         capacity: 4,
-        poll_between_orders,
         ..PanelConfig::default()
     })?;
     let mut device = Device::new(&DEVICE)?;
@@ -64,20 +63,17 @@ fn ten_seconds(poll_between_orders: bool) -> Result<(usize, usize), Error> {
 
 #[test]
 fn a_card_waits_for_no_orders() {
-    let (settled, cards) = ten_seconds(true).unwrap();
-    assert!(settled > 150 && cards == 1, "{settled} {cards}");
-    let (settled, cards) = ten_seconds(false).unwrap();
-    assert!(settled > 5000 && cards == 0, "{settled} {cards}");
+    let (settled, cards) = ten_seconds().unwrap();
+    // a POLL comes 50 ms after each command
+    assert!(
+        settled > 150 && settled <= 200 && cards == 1,
+        "{settled} {cards}"
+    );
 }
 
 #[test]
 fn what_waits_is_counted_and_withdrawn() {
-    let mut panel = Panel::new(&PanelConfig {
-        poll_between_orders: true,
-        ..PanelConfig::default()
-    })
-    .unwrap();
-    assert!(!PanelConfig::default().poll_between_orders);
+    let mut panel = Panel::new(&PanelConfig::default()).unwrap();
     let door = panel.add(5).unwrap();
     let commands = || {
         [

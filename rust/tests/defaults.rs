@@ -30,7 +30,6 @@ fn a_panel_has_these_settings() {
         gap: time(20),
         capacity: 64,
         clock_limit: time(86_400_000),
-        poll_between_orders: false,
     };
     assert_eq!(PanelConfig::default(), wanted);
 }

@@ -1,6 +1,6 @@
 //! A site over a panel and a device, which are joined in memory: what is refused; that states come once after each opening, the latest of each, and in their
 //! order, also where the panel has room for one command; that a state which is longer than the panel's room keeps none waiting; that orders for a time are not
-//! repeated; when sessions begin; and that a moment too far ahead takes nothing back.
+//! repeated; when sessions begin; that a turn which comes too late hands in no bytes, and lets sessions end; and that a moment too far ahead takes nothing back.
 mod settings;
 
 use osdp::{
@@ -24,6 +24,9 @@ struct Line {
     answered: Vec<u8>,
     taken: Vec<String>,
     told: Vec<Presence>,
+    events: usize,
+    /// Whether the last turn came too late.
+    stood_still: bool,
     now: u64,
 }
 
@@ -57,13 +60,16 @@ fn line_over(mut panel: Panel) -> Line {
         answered: Vec::new(),
         taken: Vec::new(),
         told: Vec::new(),
+        events: 0,
+        stood_still: false,
         now: 1000,
     }
 }
 
 impl Line {
     fn take_reports(&mut self) {
-        while let Some((_, _, change)) = self.site.next_report(&mut self.panel, at(self.now)) {
+        while let Some((_, report, change)) = self.site.next_report(&mut self.panel, at(self.now)) {
+            self.events += usize::from(matches!(report, Report::Event { .. }));
             self.told.extend(change);
         }
     }
@@ -93,7 +99,9 @@ impl Line {
     fn run(&mut self, until: u64) {
         while self.now < until {
             let bytes = std::mem::take(&mut self.answered);
-            self.panel.on_bytes(&bytes, at(self.now)).unwrap();
+            let now = at(self.now);
+            let heard = self.site.on_bytes(&mut self.panel, &bytes, now);
+            self.stood_still = heard.unwrap();
             self.take_reports();
             self.site.act(&mut self.panel, at(self.now)).unwrap();
             let mut burst = Vec::new();
@@ -101,13 +109,29 @@ impl Line {
                 burst.extend(bytes);
                 Ok::<(), Error>(())
             };
-            self.panel.tick(at(self.now)).unwrap().send(put).unwrap();
+            let unsent = self.site.tick(&mut self.panel, now).unwrap();
+            unsent.send(put).unwrap();
             self.take_reports();
             if self.is_there {
                 self.answer(&burst);
             }
             self.now += 1;
         }
+    }
+
+    /// Runs until the device has told keys, which nobody has heard yet.
+    fn run_until_told(&mut self) {
+        self.device.event_text("KEYPAD 0 31").unwrap();
+        while self.answered.get(5) != Some(&0x53) {
+            self.run(self.now + 1);
+        }
+    }
+
+    /// The next turn comes so many milliseconds after it was due.
+    fn run_late(&mut self, late: u64) {
+        let due = self.site.wait_until(&self.panel, at(u64::MAX));
+        self.now = due.as_millis() + late;
+        self.run(self.now + 1);
     }
 
     fn wants(&mut self, command: &Command) {
@@ -157,6 +181,76 @@ fn states_come_again_and_orders_do_not() {
     line.run(12000);
     assert_eq!(line.taken, [sound, green, text]);
     assert!(line.told.len() == 3 && line.site.is_refreshed(line.door));
+}
+
+#[test]
+fn a_turn_that_comes_too_late_lets_sessions_end() {
+    let mut line = line();
+    line.run(3000);
+    let strike = Command::output_for(0, 50).unwrap();
+    let orders = |line: &mut Line| line.site.order(&mut line.panel, line.door, &strike);
+    assert_eq!(orders(&mut line), Ok(true));
+    line.is_there = false;
+    line.run(3050); // it has gone out, and nobody has heard it
+    assert_eq!(orders(&mut line), Ok(true)); // that one waits
+    line.is_there = true;
+    line.run_late(5001);
+    assert!(
+        line.stood_still
+            && line
+                .site
+                .presence(line.door)
+                .is_some_and(Presence::is_online)
+    );
+    assert_eq!(orders(&mut line), Ok(false));
+    line.run(line.now + 5000);
+    assert!(line.taken.is_empty() && line.told.len() == 3 && line.site.is_refreshed(line.door));
+    assert_eq!(orders(&mut line), Ok(true));
+    line.run(line.now + 500);
+    assert_eq!(line.taken, ["OUT 0:5:50"]);
+
+    line.run_until_told();
+    line.run_late(5000); // as late as it may be
+    assert!(!line.stood_still && line.events == 1);
+    line.run_until_told();
+    line.run_late(5001);
+    line.run(line.now + 300);
+    assert_eq!((line.events, line.told.len()), (1, 3)); // those of long ago aren't heard
+    line.run(line.now + 5000);
+    assert_eq!((line.events, line.told.len()), (2, 5)); // their device has told them again
+
+    line.site.leave();
+    assert_eq!(orders(&mut line), Ok(false));
+    line.wants(&Command::sound(false));
+    line.run(line.now + 1);
+    assert!(!line.site.is_refreshed(line.door)); // a state waits for the next session
+    line.run(line.now + 5000);
+    assert!(line.told.len() == 7 && line.site.is_refreshed(line.door));
+
+    let limits = Site::new(&line.panel, at(line.now)).with_late(Duration::MAX);
+    line.site = limits; // a moment that is too far ahead is too late whatever the setting is
+    line.now += 25 * 3_600_000;
+    line.device.set_moment(at(line.now));
+    line.run(line.now + 1);
+    assert!(line.stood_still);
+    line.run(line.now + 5000);
+
+    line.site = Site::new(&line.panel, at(line.now)).with_late(Duration::from_millis(100));
+    line.run_late(101);
+    assert!(!line.stood_still); // no turn was before it
+    line.run_late(100);
+    assert!(!line.stood_still);
+    line.run_late(101);
+    assert!(line.stood_still);
+}
+
+#[test]
+fn a_session_that_opens_is_not_let_end() {
+    let mut line = line();
+    line.run(1100);
+    line.site.leave();
+    line.run(3000);
+    assert_eq!(line.told, [Presence::Online(at(1401))]);
 }
 
 #[test]

@@ -1,5 +1,5 @@
-/* Commands of a device that come as fast as they go. Where the setting asks for it, the device is asked for its events between two of them, so a card is told after
- * two commands at the most; else it waits as long as they come. What waits in the panel for a POLL is counted and withdrawn as any that waits. */
+/* Commands of a device that come as fast as they go. The device is asked for its events between any two of them, so a card is told after two commands at the most.
+ * What waits for a POLL is counted and withdrawn as any that waits. */
 #include <string.h>
 
 #include "demands.h"
@@ -22,15 +22,11 @@ static size_t waiting(void)
     return count;
 }
 
-static void new_panel(uint32_t poll_between_orders)
+static void new_panel(void)
 {
     struct osdp_panel_config config;
     osdp_panel_defaults(&config);
-    demand(config.poll_between_orders == 0);
     config.capacity = 4;
-    config.poll_between_orders = 2;
-    demand(osdp_panel_new(&panel, &config) == OSDP_PANEL_OUT_OF_RANGE);
-    config.poll_between_orders = poll_between_orders;
     demand(osdp_panel_new(&panel, &config) == OSDP_OK && osdp_panel_add(&panel, 5, &entry) == OSDP_OK);
 }
 
@@ -72,11 +68,11 @@ static void turn(void)
 }
 
 /* A minute of a session with a card every second; so many milliseconds pass after it at the most until it is told. */
-static void minute(uint32_t poll_between_orders)
+static void minute(void)
 {
     const struct osdp_device_config what = { .address = 5, .capacity = 64, .gap = 20 };
     size_t shown = 0, at = 0;
-    new_panel(poll_between_orders);
+    new_panel();
     demand(osdp_device_new(&device, &what, NULL, 0) == OSDP_OK && osdp_panel_begin(&panel, entry, now) == OSDP_OK);
     settled = cards = 0;
     for (int i = 0; i < 60000; i++) {
@@ -86,22 +82,21 @@ static void minute(uint32_t poll_between_orders)
             at = settled;
         }
         turn();
-        demand(!poll_between_orders || cards == shown || settled <= at + 2);
+        demand(cards == shown || settled <= at + 2);
     }
-    demand(shown == 60 && (poll_between_orders ? cards == 60 && settled > 1000 : cards == 0 && settled > 50000));
+    demand(shown == 60 && cards == 60 && settled > 1000 && settled < 1250); /* a POLL, 50 ms after the command before it, for each */
     demand(osdp_panel_free(&panel) == OSDP_OK && osdp_device_free(&device) == OSDP_OK);
 }
 
-/* Before its session four wait, of which three wait in the panel; they are withdrawn in their order. */
+/* Before its session four wait, a COMSET among them; they are withdrawn in their order. */
 static void withdrawn(void)
 {
-    static const char *const texts[] = { "LSTAT", "ISTAT", "OSTAT", "RSTAT" };
-    static const uint8_t codes[] = { 0x64, 0x65, 0x66, 0x67 };
+    static const char *const texts[] = { "LSTAT", "COMSET 6 9600", "OSTAT", "RSTAT" };
+    static const uint8_t codes[] = { 0x64, 0x6E, 0x66, 0x67 };
     static struct osdp_message command;
-    new_panel(1);
+    new_panel();
     for (size_t i = 0; i < 4; i++) {
         demand(submit(texts[i]) == OSDP_OK && waiting() == i + 1);
-        demand(i > 0 || submit("COMSET 6 9600") == OSDP_COMMANDS_FULL);
     }
     demand(submit("LSTAT") == OSDP_COMMANDS_FULL && submit("POLL") == OSDP_POLL_SUBMITTED);
     for (size_t i = 0; i < 4; i++) {
@@ -114,7 +109,6 @@ static void withdrawn(void)
 int main(void)
 {
     withdrawn();
-    minute(0);
-    minute(1);
+    minute();
     return 0;
 }

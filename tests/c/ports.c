@@ -21,7 +21,7 @@
 static int faults, port = -1, master, in_pieces;
 static bool has_boot_time = true, is_blocked, skips_waits;
 static clockid_t asked;      /* the clock that was asked last */
-static time_t ahead;         /* how many seconds the clocks are ahead */
+static time_t ahead, at_read, at_wait; /* how many seconds the clocks are ahead, and how many more at the next read of the port, or in the next wait */
 static uint64_t stands, waited; /* the moment at which they stand still, or 0, and how long was waited since then, in milliseconds */
 static speed_t missing = B0; /* the rate that the port hasn't */
 
@@ -112,6 +112,18 @@ ssize_t __wrap_write(int file, const void *bytes, size_t length)
     return __real_write(file, bytes, is_piece ? 1 : length);
 }
 
+/* The clocks go ahead at a read of the port, which gives two bytes at most. */
+ssize_t __real_read(int file, void *bytes, size_t length);
+ssize_t __wrap_read(int file, void *bytes, size_t length);
+ssize_t __wrap_read(int file, void *bytes, size_t length)
+{
+    if (file == port) {
+        ahead += at_read;
+        at_read = 0;
+    }
+    return __real_read(file, bytes, file == port && length > 2 ? 2 : length);
+}
+
 int __real_ppoll(struct pollfd *ready, nfds_t count, const struct timespec *most, const sigset_t *held);
 int __wrap_ppoll(struct pollfd *ready, nfds_t count, const struct timespec *most, const sigset_t *held);
 int __wrap_ppoll(struct pollfd *ready, nfds_t count, const struct timespec *most, const sigset_t *held)
@@ -121,7 +133,10 @@ int __wrap_ppoll(struct pollfd *ready, nfds_t count, const struct timespec *most
         waited += (uint64_t)most->tv_sec * 1000 + (uint64_t)most->tv_nsec / 1000000;
         return 0;
     }
-    return __real_ppoll(ready, count, most, held);
+    int found = __real_ppoll(ready, count, most, held);
+    ahead += at_wait;
+    at_wait = 0;
+    return found;
 }
 
 static speed_t speed(void)
@@ -163,12 +178,14 @@ static void goes_out(void)
     const struct osdp_burst burst = { 12, "\x53\x05\x0C\x00\x01\x54\x07\x00\x4B\x00\x00\x00" };
     uint8_t sent[64];
     stands = moment();
-    write_all(port, &burst);
+    demand(write_all(port, &burst, stands), "a burst that isn't late isn't written");
     demand(set_rate(port, 38400) && waited == 22, "at 9600 it isn't waited for twelve bytes and the adapter");
     demand(set_rate(port, 9600) && waited == 22, "it is waited for what has gone out");
     stands = 0;
     demand(read(master, sent, sizeof sent) == 12, "the burst is another one");
 }
+
+static uint64_t moment_read, wait_most; /* the moment that the last read gave, and how long a read waits at most */
 
 /* How many bytes a read gives, after these have come. */
 static size_t reads(const char *bytes)
@@ -180,10 +197,10 @@ static size_t reads(const char *bytes)
         (void)__real_write(master, bytes, strlen(bytes));
         (void)__real_ppoll(&ready, 1, NULL, NULL);
     }
-    return read_port(port, &lines, 0, room, sizeof room);
+    return read_port(port, &lines, wait_most, room, sizeof room, &moment_read);
 }
 
-/* Bytes that came while the program was stopped are dropped, and those that come later are read. */
+/* Bytes that came while the program was stopped are dropped, and those that come later are read. The moment is that of the wait's end. */
 static void stopped(void)
 {
     demand(reads("abc") == 3 && !was_stopped(), "what has come isn't read");
@@ -192,9 +209,46 @@ static void stopped(void)
     ahead += 3600;
     demand(reads("ab") == 0 && was_stopped(), "what came an hour ago is read");
     demand(reads("abcde") == 5 && !was_stopped(), "after that nothing is read");
+    demand(moment() - moment_read < 1000, "the moment is another one");
+    at_read = 6; /* it stands still after the wait has ended, and before it has read */
+    demand(reads("abc") == 0 && was_stopped(), "what was read late is handed on");
+    demand(reads("") == 0 && was_stopped(), "that the program stood still isn't known at the next read");
+    demand(reads("abc") == 3 && !was_stopped(), "after that nothing is read");
+    at_wait = 6;
+    demand(reads("ab") == 0 && was_stopped(), "what came before a wait that took too long is read");
+    demand(reads("abc") == 3 && !was_stopped(), "after that nothing is read");
+    wait_most = 60000;
+    ahead += 6;
+    demand(reads("ab") == 0 && was_stopped(), "what came before a turn that took too long is read where a wait may be long");
+    wait_most = 0;
+    at_wait = 4;
+    demand(reads("ab") == 2 && !was_stopped(), "a wait that didn't take too long is taken for one");
+    set_late(200);
+    ahead += 1;
+    demand(reads("ab") == 0 && was_stopped(), "a setting of 200 ms isn't kept");
+    set_late(5000);
+    (void)reads("");
     hear_all();
     ahead += 3600;
     demand(reads("ab") == 2 && was_stopped(), "a program that listens doesn't read what came an hour ago");
+}
+
+/* What is late isn't written, and what is as late as may be is. */
+static void late_writes(void)
+{
+    const struct osdp_burst burst = { 8, "\x53\x05\x08\x00\x05\x60\x40\x41" };
+    const struct osdp_burst nothing = { 0 };
+    uint8_t sent[64];
+    stands = moment();
+    waited = 0;
+    demand(!write_all(port, &burst, stands - 5001), "a burst that is late by 5,001 ms is written");
+    demand(write_all(port, &nothing, 0), "where there is no burst one is late");
+    demand(write_all(port, &burst, stands - 5000), "a burst that is late by 5,000 ms isn't written");
+    set_late(200);
+    demand(is_too_late(stands - 201) && !is_too_late(stands - 200), "another setting isn't kept");
+    set_late(5000);
+    stands = 0;
+    demand(read(master, sent, sizeof sent) == 8, "the burst that isn't late is another one, or one more was written");
 }
 
 static void tell_cause(const char *cause)
@@ -225,7 +279,7 @@ static void writes(void)
     char said[128] = "";
     int pipes[2], status;
     in_pieces = 1;
-    write_all(port, &burst);
+    demand(write_all(port, &burst, moment()), "a burst in pieces isn't written");
     in_pieces = 0;
     demand(comes(sent, 8) == 8 && memcmp(sent, burst.bytes, 8) == 0, "a burst in pieces is another one");
     demand(pipe(pipes) == 0, "there is no pipe");
@@ -235,7 +289,7 @@ static void writes(void)
         (void)dup2(pipes[1], STDOUT_FILENO);
         is_blocked = skips_waits = true;
         before_end(tell_cause);
-        write_all(port, &burst);
+        (void)write_all(port, &burst, moment());
         _exit(0);
     }
     (void)waitpid(child, &status, 0);
@@ -256,6 +310,7 @@ int main(void)
     rates(ptsname(master));
     goes_out();
     stopped();
+    late_writes();
     writes();
     return faults == 0 ? 0 : 1;
 }

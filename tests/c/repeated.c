@@ -195,11 +195,17 @@ bool was_stopped(void)
     return false;
 }
 
-void write_all(int port, const struct osdp_burst *burst)
+void set_late(uint32_t milliseconds)
+{
+    (void)milliseconds;
+}
+
+bool write_all(int port, const struct osdp_burst *burst, uint64_t since)
 {
     (void)port;
+    (void)since;
     if (burst->length == 0) {
-        return;
+        return true;
     }
     if (burst->bytes[5] == OSDP_OUT && (last.length != burst->length || memcmp(last.bytes, burst->bytes, burst->length) != 0)) {
         orders++;
@@ -207,6 +213,7 @@ void write_all(int port, const struct osdp_burst *burst)
     }
     last = *burst;
     carry(OUT, burst);
+    return true;
 }
 
 /* The burst that comes first; NULL where none comes up to a moment. */
@@ -221,11 +228,10 @@ static struct coming *first_until(uint64_t until)
     return found;
 }
 
-size_t read_port(int port, struct lines *lines, uint64_t wait, uint8_t *bytes, size_t room)
+/* How many bytes come to the panel within a wait. */
+static size_t next_bytes(uint64_t wait, uint8_t *bytes, size_t room)
 {
     uint64_t until = wait > BETWEEN ? now + BETWEEN : now + wait;
-    (void)port;
-    (void)lines;
     for (;;) {
         struct coming *found = first_until(until), burst;
         if (told == cards || now > (uint64_t)cards * 5000) {
@@ -258,6 +264,15 @@ size_t read_port(int port, struct lines *lines, uint64_t wait, uint8_t *bytes, s
         memcpy(bytes, burst.burst.bytes, burst.burst.length);
         return burst.burst.length;
     }
+}
+
+size_t read_port(int port, struct lines *lines, uint64_t wait, uint8_t *bytes, size_t room, uint64_t *at)
+{
+    size_t length = next_bytes(wait, bytes, room);
+    (void)port;
+    (void)lines;
+    *at = now;
+    return length;
 }
 
 const char *next_line(struct lines *lines)

@@ -51,7 +51,7 @@ static void new_panel(void)
         before = bytes_given;
         status = osdp_panel_new(&panel, &config);
     }
-    demand(status == OSDP_OK && bytes_given - before == counted(6920));
+    demand(status == OSDP_OK && bytes_given - before == counted(5160 + 16 + 1448 + 2 * 16 * 8)); /* the bus, its clock, the burst; two lists of sixteen */
     demand(osdp_panel_new(&panel, &config) == OSDP_IN_USE);
     demand(osdp_panel_add(&panel, 127, &entry) == OSDP_PANEL_OUT_OF_RANGE);
 }
@@ -261,15 +261,15 @@ static void restart(void)
     demand(blocks_asked == made);
 }
 
-/* Commands that wait go out first, and then the POLLs that ask for events. */
+/* After each command a POLL asks for events, so the two that wait are told after the first two commands. */
 static const char *const must_be_told[READERS] = {
     "opened PDID 53494D 1 2 70000 0 0 0\n"
     "settled OUT 0:2:0 ACK\n"
+    "event KEYPAD 0 34\n"
     "settled ISTAT ISTATR 0001\n"
+    "event RAW 0 1 26 12345640\n"
     "settled OUT 9:2:0 NAK 9\n"
     "settled LSTAT LSTATR 1 0\n"
-    "event KEYPAD 0 34\n"
-    "event RAW 0 1 26 12345640\n"
     "lost 1 OUT 1:2:0\n",
     "opened PDID 53494D 1 2 70001 0 0 0\n"
     "settled BUZ 0 2 5 5 1 ACK\n"

@@ -1,6 +1,7 @@
 /* A site (osdp_site.h) over a panel and a device of this library, which are joined in memory: what is refused; that states come once after each opening, the latest of
  * each, and in their order, also where the panel has room for one command; that a state which is longer than the panel's room keeps none waiting; that orders for a
- * time are not repeated; when sessions begin; and that a moment which lies too far ahead takes nothing back, and lets a device's old events go. */
+ * time are not repeated; when sessions begin; that a turn which comes too late hands in no bytes, and lets sessions
+ * end; and that a moment which lies too far ahead takes nothing back, and lets a device's old events go. */
 #include <string.h>
 
 #include "demands.h"
@@ -14,6 +15,7 @@ static bool is_there = true;
 static uint64_t now = 1000;
 static char taken[2048]; /* the texts of the orders that the device took */
 static char told[256];   /* each change of presence, with its moment */
+static unsigned events, losses; /* how many of these were reported */
 static uint8_t answered[4096];
 static size_t length;
 
@@ -27,9 +29,10 @@ static void note(const struct osdp_message *command)
     strcat(strncat(taken, text, count), ";");
 }
 
-static void take_answer(const struct osdp_answer *answer, uint64_t at)
+static void take_answer(void *of, const struct osdp_answer *answer, uint64_t at)
 {
     (void)at;
+    demand(of == answered); /* what was handed to the turn */
     if (answer->order == OSDP_ORDER_ONCE) {
         note(&answer->command);
     }
@@ -37,8 +40,11 @@ static void take_answer(const struct osdp_answer *answer, uint64_t at)
     length += answer->burst.length;
 }
 
-static void take_report(const struct osdp_report *report, bool has_changed, uint64_t at)
+static void take_report(void *of, const struct osdp_report *report, bool has_changed, uint64_t at)
 {
+    demand(of == entries);
+    events += report->kind == OSDP_REPORT_EVENT;
+    losses += report->kind == OSDP_REPORT_LOST && report->command.present;
     if (has_changed) {
         demand(entries[report->entry].since == at);
         sprintf(told + strlen(told), "%s %u;", entries[report->entry].is_online ? "online" : "offline", (unsigned)at);
@@ -54,9 +60,9 @@ static void run(uint64_t until)
         size_t count = length;
         memcpy(bytes, answered, count);
         length = 0;
-        osdp_site_turn(&site, &panel, bytes, count, now, take_report, &burst);
+        osdp_site_turn(&site, &panel, bytes, count, now, take_report, entries, &burst);
         if (is_there) {
-            osdp_device_turn(&device, burst.bytes, burst.length, now, take_answer);
+            osdp_device_turn(&device, burst.bytes, burst.length, now, take_answer, answered);
         }
     }
 }
@@ -203,6 +209,68 @@ static void comes_back(void)
     demand(entries[0].is_online && osdp_site_is_refreshed(&site, 0));
 }
 
+/* Runs until a packet of this code has been answered, and the answer has not been heard. */
+static void run_until_answered(uint8_t code)
+{
+    for (unsigned i = 0; i < 5000 && (length <= 5 || answered[5] != code); i++) {
+        run(now + 1);
+    }
+    demand(length > 5 && answered[5] == code);
+}
+
+/* Where a turn comes later than it may, no card that has come is told, no order goes out, and the session is let end: the order that was under way is lost, and the one
+ * that waited is taken back. One that is just not too late changes nothing. */
+static void stands_still(void)
+{
+    static struct osdp_message order;
+    osdp_output_for(0, 50, &order);
+    demand(osdp_site_order(&site, &panel, 0, &order));
+    is_there = false;
+    run(now + 50); /* it has gone out, and nobody has heard it */
+    demand(osdp_site_order(&site, &panel, 0, &order));
+    is_there = true;
+    taken[0] = told[0] = '\0';
+    events = losses = 0;
+    now = site.due + OSDP_SITE_LATE + 1;
+    run(now + 1);
+    demand(entries[0].is_left && entries[0].is_online && !osdp_site_order(&site, &panel, 0, &order));
+    run(now + 5000);
+    demand(strstr(taken, "OUT") == NULL && losses == 1 && entries[0].is_online && !entries[0].is_left);
+    demand(strncmp(told, "offline ", 8) == 0 && strstr(told, "online ") != NULL && osdp_site_is_refreshed(&site, 0));
+    demand(osdp_device_event_text(&device, "KEYPAD 0 31", 11) == OSDP_OK);
+    run_until_answered(OSDP_KEYPAD);
+    now = site.due + OSDP_SITE_LATE; /* as late as it may be */
+    run(now + 1);
+    demand(events == 1 && !entries[0].is_left);
+    demand(osdp_device_event_text(&device, "KEYPAD 0 32", 11) == OSDP_OK);
+    run_until_answered(OSDP_KEYPAD);
+    now = site.due + OSDP_SITE_LATE + 1;
+    run(now + 300);
+    demand(events == 1 && entries[0].is_left);
+    run(now + 5000);
+    demand(events == 2); /* its device has told it again */
+    run_until_answered(OSDP_ACK);
+    site.late = UINT32_MAX; /* a moment that is too far ahead is too late whatever the setting is */
+    now += 25 * 3600000ull;
+    run(now + 1);
+    demand(entries[0].is_left);
+    run(now + 5000);
+    site.late = 100; /* another setting */
+    run_until_answered(OSDP_ACK);
+    now = site.due + 101;
+    run(now + 1);
+    demand(entries[0].is_left);
+    site.late = OSDP_SITE_LATE;
+    run(now + 5000);
+    demand(entries[0].is_online && !entries[0].is_left);
+    osdp_site_leave(&site);
+    demand(entries[0].is_left && wants_text("BUZ 0 2 1 1 0") == OSDP_SITE_OK && !osdp_site_order(&site, &panel, 0, &order));
+    run(now + 1);
+    demand(!osdp_site_is_refreshed(&site, 0)); /* a state waits for the next session too */
+    run(now + 5000);
+    demand(entries[0].is_online && !entries[0].is_left && losses == 1 && osdp_site_is_refreshed(&site, 0));
+}
+
 /* After the end of a session the next is due after the pause, at each entry by itself. */
 static void pauses(void)
 {
@@ -296,31 +364,35 @@ static void waits(void)
     demand(osdp_panel_free(&brisk) == OSDP_OK);
 }
 
-/* A turn sends what its own bytes ask for, and takes what its own tick has reported; without a panel it gives no packet. A turn after a long sleep hears its bytes and sends its packet all the same. */
+/* A turn sends what its own bytes ask for, and takes what its own tick has reported; without a panel it gives no packet. One after a long sleep leaves its bytes, and
+ * takes what its own tick has reported all the same. */
 static void turns(void)
 {
     static struct osdp_burst burst;
     static const uint8_t identifies[] = { 0x53, 0x85, 19, 0, 0, OSDP_PDID, 1, 2, 3, 4, 5, 6, 7, 8, 9, 10, 11, 12, 0x82 };
     const uint64_t late = 1000 + 2 * 86400000ull;
     osdp_panel brisk = { 0 };
-    for (int hears = 0; hears < 2; hears++) {
+    for (int hears = 0; hears < 3; hears++) {
         make_brisk(&brisk, 1);
         osdp_site_new(&site, entries, 1, OSDP_SITE_ANY_LENGTH, 1000);
         demand(wants_text("BUZ 0 1 5 5 0") == OSDP_SITE_OK);
-        osdp_site_turn(&site, &brisk, NULL, 0, 1000, take_report, &burst);
+        osdp_site_turn(&site, &brisk, NULL, 0, 1000, take_report, entries, &burst);
         demand(burst.length == 0 && !osdp_site_is_due(&site, 0, UINT64_MAX)); /* its session has begun */
-        osdp_site_turn(&site, &brisk, NULL, 0, hears ? 1400 : late, take_report, &burst);
+        osdp_site_turn(&site, &brisk, NULL, 0, hears ? 1400 : late, take_report, entries, &burst);
         demand(burst.length > 5 && burst.bytes[1] == 5 && burst.bytes[5] == OSDP_ID);
-        if (hears) {
-            osdp_site_turn(&site, &brisk, identifies, sizeof identifies, late, take_report, &burst);
-            demand(entries[0].is_online && entries[0].since == late && burst.length > 5 && burst.bytes[5] == OSDP_BUZ);
+        if (hears == 1) {
+            osdp_site_turn(&site, &brisk, identifies, sizeof identifies, 1599, take_report, entries, &burst);
+            demand(entries[0].is_online && entries[0].since == 1599 && burst.length > 5 && burst.bytes[5] == OSDP_BUZ);
+        } else if (hears == 2) {
+            osdp_site_turn(&site, &brisk, identifies, sizeof identifies, late, take_report, entries, &burst);
+            demand(!entries[0].is_online && burst.length == 0 && entries[0].begins == late + 1000);
         } else {
-            osdp_site_turn(&site, &brisk, NULL, 0, late + 200, take_report, &burst);
+            osdp_site_turn(&site, &brisk, NULL, 0, late + 200, take_report, entries, &burst);
             demand(entries[0].begins == late + 1200);
         }
         demand(osdp_panel_free(&brisk) == OSDP_OK);
         burst.length = 5;
-        osdp_site_turn(&site, &brisk, NULL, 0, late + 200, take_report, &burst);
+        osdp_site_turn(&site, &brisk, NULL, 0, late + 200, take_report, entries, &burst);
         demand(burst.length == 0);
     }
 }
@@ -334,9 +406,9 @@ static void answers_after_a_gap(void)
     osdp_device hearing = { 0 };
     demand(osdp_device_new(&hearing, &reader, NULL, 0) == OSDP_OK && osdp_device_set_outputs(&hearing, off, 1) == OSDP_OK);
     length = 0;
-    osdp_device_turn(&hearing, noise, sizeof noise, 1000, take_answer);
+    osdp_device_turn(&hearing, noise, sizeof noise, 1000, take_answer, answered);
     demand(length == 0);
-    osdp_device_turn(&hearing, noise, 0, 1100, take_answer);
+    osdp_device_turn(&hearing, noise, 0, 1100, take_answer, answered);
     demand(length > 5 && answered[5] == OSDP_ACK);
     demand(osdp_device_free(&hearing) == OSDP_OK);
 }
@@ -375,14 +447,14 @@ static void lets_go(void)
     osdp_device sleeper = { 0 };
     uint32_t expired;
     demand(osdp_device_new(&sleeper, &reader, NULL, 0) == OSDP_OK);
-    osdp_device_turn(&sleeper, asks, 0, 1000, take_answer);
+    osdp_device_turn(&sleeper, asks, 0, 1000, take_answer, answered);
     demand(osdp_device_event_text(&sleeper, "KEYPAD 0 31", 11) == OSDP_OK);
     length = 0;
     demand(osdp_device_expire_event(&sleeper, late, 30000, &expired, &event) == OSDP_MOMENT_TOO_FAR);
-    osdp_device_turn(&sleeper, asks, sizeof asks, late, take_answer);
+    osdp_device_turn(&sleeper, asks, sizeof asks, late, take_answer, answered);
     demand(length == 0);
     demand(osdp_device_expire_event(&sleeper, late, 30000, &expired, &event) == OSDP_OK && expired == OSDP_EXPIRED_WITHDRAWN);
-    osdp_device_turn(&sleeper, asks, sizeof asks, late, take_answer);
+    osdp_device_turn(&sleeper, asks, sizeof asks, late, take_answer, answered);
     demand(length > 5 && answered[5] == OSDP_PDID);
     demand(osdp_device_free(&sleeper) == OSDP_OK);
 }
@@ -432,6 +504,7 @@ int main(void)
     subjects();
     lives();
     comes_back();
+    stands_still();
     pauses();
     is_submitted_once();
     waits();

@@ -71,20 +71,25 @@ void open_trace(const char *path)
     (void)path;
 }
 
-void write_all(int port, const struct osdp_burst *burst)
+void set_late(uint32_t milliseconds)
+{
+    (void)milliseconds;
+}
+
+bool write_all(int port, const struct osdp_burst *burst, uint64_t since)
 {
     (void)port;
+    (void)since;
     if (burst->length > 0) {
         tell("sent %02X\n", (unsigned)burst->bytes[5]);
     }
+    return true;
 }
 
-size_t read_port(int port, struct lines *lines, uint64_t wait, uint8_t *bytes, size_t room)
+/* How many bytes come by the next step, or none where it isn't due within the wait. */
+static size_t next_step(uint64_t wait, uint8_t *bytes)
 {
     uint8_t sum = 0;
-    (void)port;
-    (void)lines;
-    (void)room;
     if (next == sizeof steps / sizeof steps[0]) {
         exit(0);
     }
@@ -106,6 +111,16 @@ size_t read_port(int port, struct lines *lines, uint64_t wait, uint8_t *bytes, s
         bytes[length - 1] = (uint8_t)-sum;
     }
     next++;
+    return length;
+}
+
+size_t read_port(int port, struct lines *lines, uint64_t wait, uint8_t *bytes, size_t room, uint64_t *at)
+{
+    size_t length = next_step(wait, bytes);
+    (void)port;
+    (void)lines;
+    (void)room;
+    *at = now;
     return length;
 }
 

@@ -9,7 +9,7 @@
 #include "osdp.h"
 
 _Static_assert(sizeof(struct osdp_message) == 1436 && sizeof(struct osdp_burst) == 1444, "messages and bursts");
-_Static_assert(sizeof(struct osdp_panel) == 16 && sizeof(struct osdp_panel_config) == 44, "panels");
+_Static_assert(sizeof(struct osdp_panel) == 16 && sizeof(struct osdp_panel_config) == 40, "panels");
 _Static_assert(sizeof(struct osdp_moment) == 16 && sizeof(struct osdp_report) == 2888, "reports");
 _Static_assert(sizeof(struct osdp_device) == 16 && sizeof(struct osdp_device_config) == 28, "readers");
 _Static_assert(sizeof(struct osdp_answer) == 2900, "answers");
@@ -89,7 +89,7 @@ static void settings(void)
     demand_around(&first_place);
     demand(config->check == OSDP_CHECK_CRC && config->reply_wait == 200 && config->poll_interval == 50);
     demand(config->sends == 3 && config->busy_wait == 50 && config->busy_limit == 20);
-    demand(config->quiet_wait == 400 && config->gap == 20 && config->capacity == 64 && config->poll_between_orders == 0);
+    demand(config->quiet_wait == 400 && config->gap == 20 && config->capacity == 64 && config->clock_limit == 86400000);
 }
 
 /* A handle that is none, with the pattern around it. */

@@ -36,5 +36,26 @@ int main(void)
         printf("texts.c: another text\n");
         return 1;
     }
+    static const struct {
+        const char *name;
+        osdp_size size;
+    } sizes[] = {
+        { "osdp_message", 1436 }, { "osdp_burst", 1444 }, { "osdp_raw", 1434 }, { "osdp_keypad", 257 }, { "osdp_formatted", 258 }, { "osdp_local_state", 2 },
+        { "osdp_states", 1434 }, { "osdp_product", 8 }, { "osdp_pd_id", 12 }, { "osdp_capability", 3 }, { "osdp_communication", 8 }, { "osdp_maker", 1434 },
+        { "osdp_nak", 1434 }, { "osdp_output", 4 }, { "osdp_led_state", 5 }, { "osdp_led", 14 }, { "osdp_buzzer", 5 }, { "osdp_text", 261 }, { "osdp_panel", 16 },
+        { "osdp_panel_config", 40 }, { "osdp_moment", 16 }, { "osdp_report", 2888 }, { "osdp_device", 16 }, { "osdp_device_config", 28 },
+        { "osdp_answer", 2900 }, { "osdp_monitor", 16 }, { "osdp_block", 0 }, { "osdp_repor", 0 }, { "osdp_reports", 0 }, { "", 0 }
+    };
+    for (size_t at = 0; at < sizeof sizes / sizeof sizes[0]; at++) {
+        if (osdp_struct_size(sizes[at].name) != sizes[at].size) {
+            printf("texts.c: the size of %s is %d\n", sizes[at].name, (int)osdp_struct_size(sizes[at].name));
+            return 1;
+        }
+    }
+    unsigned major, minor, last;
+    if (sscanf(OSDP_VERSION, "%u.%u.%u", &major, &minor, &last) != 3 || 10000 * major + 100 * minor + last != OSDP_VERSION_NUMBER) {
+        printf("texts.c: the version has another number\n");
+        return 1;
+    }
     return 0;
 }

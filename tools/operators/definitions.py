@@ -211,7 +211,7 @@ class File:
 
     def entries(self):
         """Returns the places of the entries: each begins a line, and goes on by lines that are set further in."""
-        found, names, depth = [], {}, 0
+        found, names = [], {}
         for it in re.finditer(r"^[^\n]*\n?", self.text, re.M):
             line = it[0].rstrip("\n")
             if not line.strip() or line.lstrip().startswith("--"):

@@ -101,4 +101,3 @@ class Facts:
             else:
                 found[-1] += " " + word
         return [plain(it) for it in found]
-

@@ -5,7 +5,7 @@ import functools
 import re
 
 from . import generated
-from .definition_operators import NUMERIC, RELATIONS, Maker, groups, split_arrows
+from .definition_operators import NUMERIC, Maker, groups, split_arrows
 from .definitions import Reader, Unit, Unread
 from .facts import plain
 from .tokens import DEFINITION, tokens

@@ -155,9 +155,9 @@ impl Controller {
         Ok(())
     }
 
-    /// Takes back the command that has waited longest, where no session is.
+    /// Takes back the command that has waited longest, where none is on its way.
     pub fn withdraw(&mut self) -> Option<Command<'_>> {
-        if self.state != State::Closed {
+        if self.outstanding() && self.exchange == Exchange::Command {
             return None;
         }
         self.commands.pop().and_then(|body| Command::of(body).ok())

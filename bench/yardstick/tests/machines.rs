@@ -200,7 +200,7 @@ fn refusals_of_a_controller() {
     assert_eq!(controller.submit(&Command::Status(States::Local)), Ok(()));
     assert_eq!(controller.submit(&Command::Id(0)), Ok(()));
     assert_eq!(controller.submit(&Command::Id(0)), Err(Refusal::Full));
-    assert_eq!(controller.withdraw(), None);
+    assert_eq!(controller.withdraw(), Some(Command::Status(States::Local)));
 }
 
 #[test]
@@ -235,6 +235,7 @@ fn repeats_and_lost() {
         assert!(is_sent(controller.tick(moment), 1, &[0x64]));
     }
     assert_eq!(controller.sent_in_exchange(), 3);
+    assert_eq!(controller.withdraw(), None);
     assert_eq!(controller.tick(1000), Step::Tell(Report::Lost(Cause::NoReply, Some(Command::Status(States::Local)))));
     assert!(controller.is_closed());
     assert_eq!(controller.withdraw(), Some(Command::Id(0)));

@@ -7,7 +7,7 @@ ghost use Rattle.std.specs.Prelude.{◌≡◌, false};
 ghost use Rattle.osdp_tool_streams.specs.Watched.{has_failed};
 
 use crate::wrong::{after_name, tell_wrong};
-use osdp_line_calls::{LineCommand, LineDevice, LineRun, OrderedPanel, run_lines};
+use osdp_line_calls::{LineCommand, LineDevice, LinePanel, LineRun, run_lines};
 use osdp_tool::{
     Choice, Job, VERSION, arguments, choose, format_of, help_text, job, lent, make, without_formats,
 };
@@ -97,7 +97,7 @@ fn run(rt: &HostRuntime) -> Result<u8, ToolFault> {
         Choice::Show => return run_captures(rt, Reads::Show, &words),
         Choice::Check => return run_captures(rt, Reads::Check, &words),
         Choice::Monitor => return run_captures(rt, Reads::Monitor, &words),
-        Choice::Panel => run_machine::<OrderedPanel>(rt, &words)?,
+        Choice::Panel => run_machine::<LinePanel>(rt, &words)?,
         Choice::Reader => run_machine::<LineDevice>(rt, &words)?,
         Choice::Plan => run_plan(rt, &words)?,
         Choice::Test => return run_test(rt, after_name(&words)),

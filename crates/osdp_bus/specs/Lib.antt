@@ -8,3 +8,4 @@ pub mod Machine
 pub mod Deadlines
 pub mod Waits
 pub mod Private
+pub mod Asking

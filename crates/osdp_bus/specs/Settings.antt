@@ -19,6 +19,7 @@ controller_config address c = record {
   busy_wait = c.busy_wait;
   busy_limit = c.busy_limit;
   quiet_wait = c.quiet_wait;
+  poll_between_orders = c.poll_between_orders;
 }
 
 -- each setting is in its range; an address is judged where a device is added, so it is any device's here
@@ -36,6 +37,7 @@ bus_config c gap room = record {
   busy_wait = c.busy_wait;
   busy_limit = c.busy_limit;
   quiet_wait = c.quiet_wait;
+  poll_between_orders = c.poll_between_orders;
   gap = gap;
   room = room;
 }

@@ -5,9 +5,10 @@ ghost use Rattle.osdp_controller.specs.States.{is_closed};
 ghost use Rattle.osdp_bus.specs.Entries.{address_of};
 
 use crate::EntryNumber;
+use crate::asking::Question;
 use crate::boxed_entry::BoxedEntry;
 use crate::config::BusConfig;
-use crate::entry_list::{EntryList, is_taken};
+use crate::entry_list::{EntryList, first_holding, is_taken};
 use crate::fault::BusFault;
 use crate::line::Line;
 use crate::memory::BoxedMemory;
@@ -44,10 +45,11 @@ impl Model for Bus {
 }
 
 impl Bus {
+    ghost use Rattle.osdp_bus.specs.Asking.{may_withdraw_of, orders_of, question};
     ghost use Rattle.osdp_bus.specs.Buses.{device_of, is_maybe_again};
     ghost use Rattle.osdp_bus.specs.Deadlines.{IsDeadline};
     ghost use Rattle.osdp_bus.specs.Hearing.{after_bytes, after_silence};
-    ghost use Rattle.osdp_bus.specs.Machine.{AddEnds, NewEnds, after_begin_at, after_next_report, after_retarget_at, after_submit_at, after_withdraw_at, begin_refusal_at, changed_unless, is_withdrawn_at, order_refusal_at, retarget_refusal_at, submit_refusal_at, unless_refused, withdrawal_at};
+    ghost use Rattle.osdp_bus.specs.Machine.{AddEnds, NewEnds, add_refusal, after_begin_at, after_next_report, after_retarget_at, after_submit_at, after_withdraw_at, begin_refusal_at, changed_unless, is_withdrawn_at, order_refusal_at, retarget_refusal_at, submit_refusal_at, unless_refused, withdrawal_at};
     ghost use Rattle.osdp_controller.specs.Lent.{IsWritten};
     ghost use Rattle.osdp_bus.specs.Ticking.{bus_ticks};
 
@@ -89,21 +91,31 @@ impl Bus {
     pub fn add(&mut self, address: Address) -> Result<EntryNumber, BusFault>
         ensures { AddEnds address self.old self.new result }
     {
+        if let Some(fault) = self.add_refusal(address) {
+            return Err(fault);
+        }
         let entry = self.line.devices.entries.len();
-        if entry >= MOST_DEVICES {
-            return Err(BusFault::TooMany);
-        }
-        if address.get() >= Address::CONFIGURATION {
-            return Err(BusFault::OutOfRange);
-        }
-        if is_taken(self.line.devices.entries.as_slice(), address.get()) {
-            return Err(BusFault::AddressTaken);
-        }
         let device = BoxedEntry::new(self.alloc, address, &self.line.config)?;
         let memory = BoxedMemory::new(self.alloc)?;
         self.line.devices.entries.push_reserved(device);
         self.line.memories.push_reserved(memory);
         Ok(entry)
+    }
+
+    /// Why a device at this address may not be added: as `add` refuses it, whether there is memory or not.
+    pub fn add_refusal(&self, address: Address) -> Option<BusFault>
+        ensures { result ≡ add_refusal address self.now }
+    {
+        if self.line.devices.entries.len() >= MOST_DEVICES {
+            return Some(BusFault::TooMany);
+        }
+        if address.get() >= Address::CONFIGURATION {
+            return Some(BusFault::OutOfRange);
+        }
+        if is_taken(self.line.devices.entries.as_slice(), address.get()) {
+            return Some(BusFault::AddressTaken);
+        }
+        None
     }
 
     /// Begins a session of a device: it is left quiet for the quiet wait, then the opening ID goes out in its turn.
@@ -152,8 +164,8 @@ impl Bus {
         self.line.submit(entry, command)
     }
 
-    /// The command that may be withdrawn of a device: the one that has waited longest. None where none waits, or where its
-    /// session has begun.
+    /// The command that may be withdrawn of a device: the one that has waited longest. None where none waits, and while one
+    /// of the device is on its way: it was sent, and waits for its answer.
     ///
     /// NoEntry (B4).
     pub fn withdrawable(&self, entry: EntryNumber) -> Result<Option<Command<'_>>, BusFault>
@@ -236,6 +248,31 @@ impl Bus {
         self.line.is_maybe_again()
     }
 
+    /// The entry of the device that the report that waits is about. None where none waits.
+    pub fn reported(&self) -> Option<EntryNumber>
+        ensures { result ≡ option_map (λ told. told.0) self.now.devices.report }
+    {
+        self.line.devices.report.entry()
+    }
+
+    /// The exchange that is outstanding: whom the bus has asked, what, and how often. None where none is.
+    pub fn question(&self) -> Option<Question>
+        ensures { result ≡ question self.now }
+    {
+        let entry = first_holding(self.line.devices.entries.as_slice())?;
+        if entry >= self.line.devices.entries.len() {
+            return None;
+        }
+        self.line.devices.entries[entry].question(entry)
+    }
+
+    /// The greatest moment seen.
+    pub fn greatest(&self) -> u64
+        ensures { result ≡ self.now.greatest }
+    {
+        self.line.receiver.greatest()
+    }
+
     /// Lets the report that waits go, once it was read where it lies. Where none waits nothing changes.
     pub fn settle(&mut self)
         ensures { self.new ≡ after_next_report self.old }
@@ -268,6 +305,26 @@ impl Bus {
             return None;
         }
         Some(self.line.devices.entries[entry].controller.waiting())
+    }
+
+    /// How many orders of a device have no end yet: the one that is on its way, and those that wait. None where there is no such entry.
+    pub fn orders(&self, entry: EntryNumber) -> Option<usize>
+        ensures { result ≡ option_map orders_of (device_of entry self.now) }
+    {
+        if entry >= self.line.devices.entries.len() {
+            return None;
+        }
+        Some(self.line.devices.entries[entry].controller.orders())
+    }
+
+    /// Whether a command of a device may be withdrawn: `withdrawable` gives one. None where there is no such entry.
+    pub fn may_withdraw(&self, entry: EntryNumber) -> Option<bool>
+        ensures { result ≡ option_map may_withdraw_of (device_of entry self.now) }
+    {
+        if entry >= self.line.devices.entries.len() {
+            return None;
+        }
+        Some(self.line.devices.entries[entry].controller.may_withdraw())
     }
 
     /// Whether the session of a device is closed. None where there is no such entry.

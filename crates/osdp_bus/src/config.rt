@@ -24,6 +24,8 @@ pub struct BusConfig {
     pub busy_limit: u8,
     /// How long a device is left quiet before a session opens.
     pub quiet_wait: u32,
+    /// Whether a POLL stands between any two orders of a device.
+    pub poll_between_orders: bool,
     /// After how long a silence a run of bytes is over.
     pub gap: u32,
     /// How much may wait for each device.
@@ -44,6 +46,7 @@ impl BusConfig {
             busy_wait: times.busy_wait,
             busy_limit: times.busy_limit,
             quiet_wait: times.quiet_wait,
+            poll_between_orders: times.poll_between_orders,
             gap: 20,
             room,
         }
@@ -62,6 +65,7 @@ impl BusConfig {
             busy_wait: self.busy_wait,
             busy_limit: self.busy_limit,
             quiet_wait: self.quiet_wait,
+            poll_between_orders: self.poll_between_orders,
         }
     }
 

@@ -5,10 +5,13 @@ ghost use Rattle.osdp_controller.specs.Comsets.{is_comset};
 ghost use Rattle.osdp_controller.specs.Hearing.{comset_of};
 ghost use Rattle.osdp_controller.specs.Lent.{IsWritten};
 ghost use Rattle.osdp_controller.specs.Machine.{begin_refusal, retarget_refusal, submit_refusal};
+ghost use Rattle.osdp_bus.specs.Asking.{question_of};
 ghost use Rattle.osdp_bus.specs.Entries.{entry_hears, entry_ticks, freed_with, holds, is_at, is_entry_due, is_reserved, reserved_after, reserved_for, step_of, takes_up, told_of};
 ghost use Rattle.osdp_bus.specs.Machine.{bus_fault, entry_begins, entry_retargets, entry_submits, entry_withdraws, reserved_without, withdrawn_of};
 ghost use Rattle.osdp_bus.specs.Waits.{IsDueFrom};
 
+use crate::EntryNumber;
+use crate::asking::Question;
 use crate::fault::BusFault;
 use osdp_controller::{Controller, ControllerFault, KeptReport, Report};
 use osdp_frame::{Address, Burst, FrameView};
@@ -41,6 +44,18 @@ impl Entry {
         ensures { result ≡ holds self.now }
     {
         self.controller.outstanding()
+    }
+
+    /// What it was asked, and how often, where its exchange is outstanding; its entry has this number.
+    pub(crate) fn question(&self, entry: EntryNumber) -> Option<Question>
+        ensures { result ≡ question_of entry self.now }
+    {
+        let asked = self.controller.asked()?;
+        Some(Question {
+            entry,
+            asked,
+            sent: self.controller.sent_in_exchange(),
+        })
     }
 
     /// Whether its controller would send or report at this moment.
@@ -88,7 +103,7 @@ impl Entry {
         self.reserved = None;
     }
 
-    /// The command that may be withdrawn: the one that has waited longest, where no session has begun.
+    /// The command that may be withdrawn: the one that has waited longest, where none is on its way.
     pub(crate) fn withdrawable(&self) -> Option<Command<'_>>
         ensures { result ≡ withdrawn_of self.now }
     {

@@ -22,6 +22,7 @@
 //! What a bus does is the definitions in `specs/`. Only `Bus::new` and `Bus::add` take memory.
 #![tactic(auto)]
 
+mod asking;
 mod boxed_entry;
 mod bus;
 mod calls;
@@ -34,6 +35,7 @@ mod line;
 mod memory;
 mod told;
 
+pub use asking::Question;
 pub use bus::Bus;
 pub use config::BusConfig;
 pub use fault::BusFault;

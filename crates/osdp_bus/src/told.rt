@@ -1,6 +1,6 @@
 //! The report that waits to be taken.
 
-ghost use Rattle.std.specs.Prelude.{◌≡◌, false, is_some, None, Some};
+ghost use Rattle.std.specs.Prelude.{◌≡◌, false, is_some, None, Some, option_map};
 ghost use Rattle.osdp_controller.specs.Lent.{IsWritten};
 ghost use Rattle.osdp_bus.specs.Buses.{waiting_after};
 ghost use Rattle.osdp_bus.specs.Entries.{entry_hears, entry_ticks, step_of, told_of};
@@ -44,6 +44,17 @@ impl Told {
         ensures { result ≡ is_some self.now }
     {
         self.report.is_some()
+    }
+
+    /// The entry of the device that it is about.
+    pub fn entry(&self) -> Option<EntryNumber>
+        ensures { result ≡ option_map (λ told. told.0) self.now }
+    {
+        if self.report.is_some() {
+            Some(self.entry)
+        } else {
+            None
+        }
     }
 
     /// The report where it lies, with its entry.

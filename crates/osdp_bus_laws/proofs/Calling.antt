@@ -1,6 +1,9 @@
 -- What holds of the devices of a bus is kept by the calls of its user, and so by every list of calls.
 use Rattle.osdp_bus_laws.proofs.Common.{◌≡◌, ◌∙◌, ap, sym, subst, inl, inr, ℕ, ◌<◌, ◌||◌, Bool, true, false, max, List, [], ◌∷◌, ◌++◌, length, Option, Some, None, refl, append_assoc, append-nil, ◌⊎◌, if◌then◌else◌, is_some, nat_le, nat_lt, slice_get, slice_set, option_map, option_to_list, option_map_or, eq-eqb, ltb-true, Command, Communication, State, Closed, has_comset, comset_of, AreSettings, IsMachine, Machine, after_begin, after_retarget, after_submit, begin_refusal, kept_in, or_no_device, refused_unless_closed, retarget_refusal, submit_refusal, withdrawn_in, changed_machine, asked_in, SubmitTo, BeginOf, RetargetOf, WithdrawOf, was_closed, keeps_config, keeps_each, stays_well, BusConfig, Entry, BusFault, TooMany, AddressTaken, OutOfRange, BusState, Devices, device_of, new_bus, seen, address_of, is_at, is_reserved, is_taken, is_taken_beside, reserved_for, takes_up, add_refusal, after_add, after_begin_at, after_next_report, after_retarget_at, after_submit_at, begin_refusal_at, begin_refusal_of, bus_fault, changed_unless, changes_entry, entry_begins, entry_retargets, entry_submits, entry_withdraws, is_comset_refused, most_entries, new_device, or_taken, reserved_without, retarget_refusal_at, retarget_refusal_of, submit_refusal_at, submit_refusal_of, withdrawn_of, IsBusConfig, controller_config, Names, comsets_in, Call, Add, Begin, Submit, Withdraw, Retarget, OnBytes, OnSilence, Tick, NextReport, after_call, after_calls}
+use Rattle.std.specs.Prelude.{drop}
 use Rattle.osdp_controller.specs.declared.fault.ControllerFault.{ControllerFault}
+use Rattle.osdp_controller.specs.declared.state.State.TheVariants.{Idle, Pausing, Quiet, Waiting}
+use Rattle.osdp_controller.specs.Exchanges.{submitted_command}
 use Rattle.osdp_bus_laws.proofs.Changing.{Comes, IsFree, Sound, comes_of, sound_added, sound_set}
 use Rattle.osdp_bus_laws.proofs.OneDevice.{Reserves, comsets_append, done_with, freed_some, pending}
 use Rattle.osdp_bus_laws.proofs.Places.{both_false, free_beside, none_at}
@@ -58,13 +61,25 @@ pub no_comsets : (commands : List Command) → has_comset commands ≡ false →
 no_comsets [] h = refl
 no_comsets (command ∷ commands) h = no_comset (comset_of command) (has_comset commands) (comsets_in commands) h (no_comsets commands)
 
-withdrawn_reserves : (state : State) (waiting : List Command) (reserved : Option ℕ) → Reserves (comsets_in (option_to_list (asked_in state) ++ waiting)) reserved
-    → Reserves (comsets_in (option_to_list (asked_in state) ++ kept_in state waiting)) (reserved_without (withdrawn_in state waiting) reserved)
-withdrawn_reserves Closed [] reserved is = is
-withdrawn_reserves Closed (command ∷ waiting) reserved is =
+first_reserves : (waiting : List Command) (reserved : Option ℕ) → Reserves (comsets_in waiting) reserved
+    → Reserves (comsets_in (drop 1 waiting)) (reserved_without (slice_get waiting 0) reserved)
+first_reserves [] reserved is = is
+first_reserves (command ∷ waiting) reserved is =
     done_with (comset_of command) (comsets_in waiting) reserved
     (subst (λ l. Reserves (l ++ comsets_in waiting) reserved) (sym (append-nil (option_to_list (comset_of command)))) is)
-withdrawn_reserves _ waiting reserved is = is
+
+beside : (o : Option Command) (waiting : List Command) (reserved : Option ℕ) → Reserves (comsets_in (option_to_list o ++ waiting)) reserved
+    → Reserves (comsets_in (option_to_list o ++ (if is_some o then waiting else drop 1 waiting))) (reserved_without (if is_some o then None else slice_get waiting 0) reserved)
+beside None waiting reserved is = first_reserves waiting reserved is
+beside (Some command) waiting reserved is = is
+
+withdrawn_reserves : (state : State) (waiting : List Command) (reserved : Option ℕ) → Reserves (comsets_in (option_to_list (asked_in state) ++ waiting)) reserved
+    → Reserves (comsets_in (option_to_list (asked_in state) ++ kept_in state waiting)) (reserved_without (withdrawn_in state waiting) reserved)
+withdrawn_reserves Closed waiting reserved is = first_reserves waiting reserved is
+withdrawn_reserves (Quiet until) waiting reserved is = first_reserves waiting reserved is
+withdrawn_reserves (Idle due) waiting reserved is = first_reserves waiting reserved is
+withdrawn_reserves (Waiting until sends o) waiting reserved is = beside (submitted_command o.exchange) waiting reserved is
+withdrawn_reserves (Pausing until o) waiting reserved is = beside (submitted_command o.exchange) waiting reserved is
 
 -- ---- a device of an entry changes
 

@@ -51,6 +51,7 @@ pub use Rattle.osdp_link_laws.specs.Progress.{NoComset}
 pub use Rattle.osdp_shared_line.proofs.Linking.{move_fits, moves_more, run_more}
 pub use Rattle.osdp_reader.specs.Table.{command_in, new_address}
 pub use Rattle.osdp_msg.specs.ReplyTable.{ReplyFits}
+pub use Rattle.osdp_controller.proofs.Idling.{idle_way}
 pub use Rattle.osdp_controller.specs.Ticking.{begins, gives_up, sends_frame, stays, Ticked, ticks_in, tries_again}
 pub use Rattle.osdp_msg.specs.declared.fault.MsgFault.{MsgFault}
 pub use Rattle.osdp_reader.specs.Queue.{event_for, lacks_room, offering, released, unoffered}

@@ -1,5 +1,5 @@
 -- One COMSET at most is under way, to the address that is kept for it.
-use Rattle.osdp_bus_links.proofs.Common.{◌≡◌, ◌<◌, ◌+◌, ℕ, Bool, true, false, cond, leb, ltb, List, [], ◌∷◌, ◌++◌, Option, Some, None, IfSome, refl, sym, subst, ap, ◌∙◌, arith, leb-true, Packet, next_sequence, CommandFits, Command, Communication, comset_of, frame_of, seen, Ticked, begins, gives_up, sends_frame, stays, ticks_in, tries_again, Exchange, Opening, Polling, Asking, Outstanding, Session, State, Closed, Quiet, Idle, Waiting, Pausing, ReadsWhatIsAsked, NoComset, both, each_append, each_rest, tick_so, Each, new_address, SetsReader, address_in, option_to_list, outstanding_command, submitted_command}
+use Rattle.osdp_bus_links.proofs.Common.{◌≡◌, ◌<◌, ◌+◌, ℕ, Bool, true, false, cond, leb, ltb, List, [], ◌∷◌, ◌++◌, Option, Some, None, IfSome, refl, sym, subst, ap, ◌∙◌, arith, leb-true, Packet, next_sequence, CommandFits, Command, Communication, comset_of, frame_of, seen, Ticked, begins, idle_way, gives_up, sends_frame, stays, ticks_in, tries_again, Exchange, Opening, Polling, Asking, Outstanding, Session, State, Closed, Quiet, Idle, Waiting, Pausing, ReadsWhatIsAsked, NoComset, both, each_append, each_rest, tick_so, Each, new_address, SetsReader, address_in, option_to_list, outstanding_command, submitted_command}
 use Rattle.osdp_msg.specs.declared.command.Command.TheVariants as command
 use Rattle.osdp_bus_links.proofs.Names.{MovesReader, asked_for, freed_by, MayAsk}
 
@@ -116,16 +116,13 @@ module _ (reads : ReadsWhatIsAsked) (r : Option ℕ) (here : ℕ) where
       by_state Closed at fits one = rests Closed at fits one
       by_state (Quiet until) at fits one =
           both TickedWell (leb until s.greatest) (begins Opening 0 s ws) (stays s ws)
-          (sending 1 (record { exchange = Opening; busies = 0; sent = 0 }) (record s { number = 0 }) ws is fits one) (rests (Quiet until) at fits one)
-      by_state (Idle due) at fits one = idle ws at fits one
-        where
-          idle : (ws : List Command) → s.state ≡ Idle due → Each CommandFits ws → One r ws → TickedWell (ticks_in (Idle due) s ws)
-          idle [] at fits one =
-              both TickedWell (leb due s.greatest) (begins Polling (next_sequence s.number) s []) (stays s [])
-              (sending 1 (record { exchange = Polling; busies = 0; sent = 0 }) (record s { number = next_sequence s.number }) [] is tt tt)
-              (resting s [] is (subst (λ q. Each CommandFits (option_to_list (outstanding_command q) ++ [])) (sym at) tt) (subst (λ q. One r (option_to_list (outstanding_command q) ++ [])) (sym at) tt))
-          idle (c ∷ rest) at fits one =
-              sending 1 (record { exchange = Asking c; busies = 0; sent = 0 }) (record s { number = next_sequence s.number }) rest is fits one
+          (sending 1 (record { exchange = Opening; busies = 0; sent = 0 }) (record s { number = 0; asked = false }) ws is fits one) (rests (Quiet until) at fits one)
+      by_state (Idle due) at fits one =
+          idle_way TickedWell due s ws
+          (λ e. sending 1 (record { exchange = Polling; busies = 0; sent = 0 }) (record s { number = next_sequence s.number; asked = false }) ws is fits one)
+          (λ e. rests (Idle due) at fits one)
+          (λ c rest e. sending 1 (record { exchange = Asking c; busies = 0; sent = 0 }) (record s { number = next_sequence s.number; asked = true }) rest is
+          (subst (Each CommandFits) e fits) (subst (One r) e one))
       by_state (Waiting until k o) at fits one =
           both TickedWell (leb until s.greatest) (tries_again k o s ws) (stays s ws)
           (both TickedWell (ltb k s.config.sends) (sends_frame (k + 1) o s ws) (gives_up o s ws)

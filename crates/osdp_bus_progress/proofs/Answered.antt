@@ -50,7 +50,7 @@ module _ {H : Type 0} (answer_of : H → Command → Answer) (after : H → Comm
   -- ---- the answer
 
   pub answer_recovers : EachRecovers answer_of after → AccountsAreOnce answer_of after → HasAnAccountEach answer_of after → EachAnswerRecovers answer_of after
-  answer_recovers recovers holds counts config readers steps m wait told is within long none =
+  answer_recovers recovers holds counts config readers steps m wait told is within long plain none =
       let start = set_up config readers in
       let lost = clear (length readers) steps in
       let all_steps = (steps ++ lost) ++ rounds m wait in
@@ -63,7 +63,7 @@ module _ {H : Type 0} (answer_of : H → Command → Answer) (after : H → Comm
       (subst (λ (s : LineState H). NoneMoves (accounts s)) on_last (subst NoneMoves told_is none)) in
       let none_before = moves_before lost before (clear_idle (length readers) steps)
       (subst (λ (s : LineState H). NoneMoves (accounts s)) (runs_on (after_step answer_of after) steps lost start) none_mid) in
-      let comes = recovers config readers steps m wait (record { settings = is.ends.0; well = is.ends.1; fits = is.fits }) within long none_before in
+      let comes = recovers config readers steps m wait (record { settings = is.ends.0; well = is.ends.1; fits = is.fits }) within long plain none_before in
       let inside = each_append IsInSession (steps ++ lost) (rounds m wait)
       (each_append IsInSession steps lost (each_of IsInSession steps within) (each_of IsInSession lost (in_session (length readers) steps)))
       (rounds_within m wait) in

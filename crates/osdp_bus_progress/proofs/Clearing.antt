@@ -198,7 +198,7 @@ module _ {H : Type 0} (answer_of : H → Command → Answer) (after : H → Comm
       (over.line, over.same)
 
   pub each_recovers : EachComesThrough answer_of after → ClearsTheLine answer_of after → EachRecovers answer_of after
-  each_recovers comes clears config readers steps m wait is within long moves =
+  each_recovers comes clears config readers steps m wait is within long plain moves =
       let start = set_up config readers in
       let lost = clear (length readers) steps in
       let all_steps = steps ++ lost in
@@ -208,6 +208,6 @@ module _ {H : Type 0} (answer_of : H → Command → Answer) (after : H → Comm
         fits = (holds_on (after_step answer_of after) (StepFits answer_of after) all_steps (rounds m wait) start is.fits).0;
       }) moves in
       let session = All-append IsInSession steps lost within (in_session (length readers) steps) in
-      let through = comes config readers all_steps m wait is session long over.0 in
+      let through = comes config readers all_steps m wait is session long plain over.0 in
       subst (λ (l : List Account). EachComesOn m (length readers) l (accounts (simulation.run answer_of after (all_steps ++ rounds m wait) start)))
       over.1 through

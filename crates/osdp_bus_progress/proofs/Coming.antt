@@ -17,6 +17,7 @@ use Rattle.osdp_sim_laws.proofs.Left.{Brings, brings, open_is}
 use Rattle.osdp_sim_bus_laws.proofs.Begun.{sessions_counted}
 use Rattle.osdp_sim_bus_laws.proofs.Scheduling.{moves_more}
 use Rattle.osdp_sim_bus_laws.proofs.Rows.{ItsLink, its_first, its_link, own_moves, run_first, tells_at}
+use Rattle.osdp_link_laws.proofs.Controllers.{stays_between}
 use Rattle.osdp_bus_progress.proofs.Along.{first_at, run_at_all}
 use Rattle.osdp_bus_progress.proofs.Bursts.{at_each}
 use Rattle.osdp_bus_progress.proofs.Ends.{HasBegun, NoEnd, idle_run, lasts_there, none_before_rounds, rounds_idle}
@@ -298,9 +299,9 @@ module _ {H : Type 0} (answer_of : H → Command → Answer) (after : H → Comm
             let turn = its_turn k t at none in
             all_rounds answer_of after laws ranges comes (length readers) wait k m turn.entry (length readers - 1) s n turn.rest goes rounds_fit none t at turn.away
 
-        comes_on : (k : ℕ) (u v : ReaderSite H) → slice_get s.sites k ≡ Some u → slice_get later.sites k ≡ Some v → v.account.ends ≡ []
+        comes_on : config.poll_between_orders ≡ false → (k : ℕ) (u v : ReaderSite H) → slice_get s.sites k ≡ Some u → slice_get later.sites k ≡ Some v → v.account.ends ≡ []
             → ComesOn m (length readers) u.account v.account
-        comes_on k u v at there none =
+        comes_on plain k u v at there none =
             let no_end : NoEnd k later = λ w here. subst (λ (x : ReaderSite H). x.account.ends ≡ []) (some_same v w (sym there ∙ here)) none in
             let few = get_within k u s.sites at in
             let same = counted in
@@ -314,7 +315,7 @@ module _ {H : Type 0} (answer_of : H → Command → Answer) (after : H → Comm
             let machine = controller_config l.given.0.address config in
             let range : IsInRange old.controller.session = ranges.later (new_machine machine config.room.messages config.room.bytes) (Begin 0 ∷ []) (ranges.new machine config.room.messages config.room.bytes) in
             let through = in_time old (moves_in steps k) has.moments its.begins range its.fits
-            (subst progress.IsClear l.moved (clear_at k t.0 t.1))
+            (subst progress.IsClear l.moved (clear_at k t.0 t.1)) (stays_between answer_of after false (moves_in steps k) old its.steady plain)
             (subst (progress.AreLate answer_of after has.moments) l.moved has.late)
             (subst (MovesFit answer_of after (progress.rounds has.moments)) l.moved has.fits) in
             let last = has.seen_then.site in
@@ -363,7 +364,7 @@ module _ {H : Type 0} (answer_of : H → Command → Answer) (after : H → Comm
         (rests config readers steps (suc m) wait is within long clear k v.0 v.1 (ap (λ (b : Account). b.ends) v.2 ∙ none) (omega (arith, few, many)) (omega arith))
 
     pub each_comes_through : EachComesThrough answer_of after
-    each_comes_through config readers steps m wait is within long clear k old new at there none =
+    each_comes_through config readers steps m wait is within long plain clear k old new at there none =
         let s = simulation.run answer_of after steps (set_up config readers) in
         let later = simulation.run answer_of after (rounds m wait) s in
         let u = unmapped (λ (site : ReaderSite H). site.account) k old s.sites at in
@@ -371,4 +372,4 @@ module _ {H : Type 0} (answer_of : H → Command → Answer) (after : H → Comm
         (subst (λ (w : LineState H). slice_get (accounts w) k ≡ Some new) (runs_on (after_step answer_of after) steps (rounds m wait) (set_up config readers)) there) in
         subst (λ a. ComesOn m (length readers) a new) u.2
         (subst (λ b. ComesOn m (length readers) u.0.account b) v.2
-        (comes_on config readers steps m wait is within long clear k u.0 v.0 u.1 v.1 (ap (λ (a : Account). a.ends) v.2 ∙ none)))
+        (comes_on config readers steps m wait is within long clear plain k u.0 v.0 u.1 v.1 (ap (λ (a : Account). a.ends) v.2 ∙ none)))

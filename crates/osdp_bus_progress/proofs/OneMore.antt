@@ -1,8 +1,9 @@
 -- Between rounds of a bus: each reader has its round, its controller is idle after it, and each round of it but the first brings one more.
-use Rattle.osdp_bus_progress.proofs.Common.{◌≡◌, ◌≤◌, ◌<◌, ◌+◌, ◌-◌, ◌++◌, ℕ, suc, true, cond, All, List, [], ◌∷◌, length, Some, inl, inr, refl, sym, subst, ap, ◌∙◌, arith, append_assoc, slice_get, Command, is_due, Idle, Answer, BusConfig, Entry, MovesFit, Link, keep_reader, each_all, each_append, each_of, is_true, NetMovesFit, Net, net_more, net_round, run, site_at, view, some_same, device_of, Account, rounds, SimStep, runs_on, Given, LineState, ReaderSite, accounts, set_up, after_step, IsInSession, rounds_within, FollowsSites, moves_of, first_net, unmapped, get_within, IsRun, AreRounds, EachHasItsRound, EachIsIdle, EachRoundBringsOneMore, HasNotEnded, IsItsRound, after_rounds, SeveralLinks}
+use Rattle.osdp_bus_progress.proofs.Common.{◌≡◌, ◌≤◌, ◌<◌, ◌+◌, ◌-◌, ◌++◌, ℕ, suc, false, true, cond, All, List, [], ◌∷◌, length, Some, inl, inr, refl, sym, subst, ap, ◌∙◌, arith, append_assoc, slice_get, Command, is_due, Idle, Answer, BusConfig, Entry, MovesFit, Link, keep_reader, each_all, each_append, each_of, is_true, NetMovesFit, Net, net_more, net_round, run, site_at, view, some_same, device_of, Account, rounds, SimStep, runs_on, Given, LineState, ReaderSite, accounts, set_up, after_step, IsInSession, rounds_within, FollowsSites, moves_of, first_net, unmapped, get_within, IsRun, AreRounds, EachHasItsRound, EachIsIdle, EachRoundBringsOneMore, HasNotEnded, IsItsRound, after_rounds, SeveralLinks}
 use Rattle.osdp_link_laws.specs.Link as link
 use Rattle.osdp_link_laws.specs.Progress as progress
 use Rattle.osdp_link_laws.specs.Refusals.{KeepsReader}
+use Rattle.osdp_link_laws.proofs.Controllers.{stays_between}
 use Rattle.osdp_link_laws.proofs.Counting.{none_in_session}
 use Rattle.osdp_sim_bus.specs.Runs as simulation
 use Rattle.osdp_sim_laws.specs.Resting.{BringsOneMore}
@@ -130,9 +131,9 @@ module _ {H : Type 0} (answer_of : H → Command → Answer) (after : H → Comm
         abbrev next_line : LineState H
         next_line = after_round answer_of after laws wait (line_at m)
 
-        one_more : (r : ℕ) → r < m → IsItsRound k wait (line_at r) → IsItsRound k wait (line_at m) → k < length readers → NoEnd k next_line
+        one_more : config.poll_between_orders ≡ false → (r : ℕ) → r < m → IsItsRound k wait (line_at r) → IsItsRound k wait (line_at m) → k < length readers → NoEnd k next_line
             → (u v : ReaderSite H) → slice_get (line_at m).sites k ≡ Some u → slice_get next_line.sites k ≡ Some v → BringsOneMore u.account v.account
-        one_more r earlier had own few none u v at there =
+        one_more plain r earlier had own few none u v at there =
             let s = line_at m in
             let n = sites_at m in
             let more = steps ++ rounds m wait in
@@ -152,7 +153,8 @@ module _ {H : Type 0} (answer_of : H → Command → Answer) (after : H → Comm
             let calm = rest.clear k t.0 t.1 (lasts_there k s n rest.follows rest.begun rest.lasts t.0 t.1) in
             let idle = stands_here.idles r earlier had t.0 t.1 in
             let fits = subst (λ b. MovesFit answer_of after (cond b (progress.round now) []) (view k t.0 n)) (is_true it.at k same) (it.each k t.0 t.1).fits in
-            let brought = from_rest old ms (now ∷ []) its.begins its.fits (subst progress.IsClear l.moved calm) (subst progress.IsAtRest l.moved idle)
+            let brought = from_rest old ms (now ∷ []) its.begins its.fits (subst progress.IsClear l.moved calm) (stays_between answer_of after false ms old its.steady plain)
+            (subst progress.IsAtRest l.moved idle)
             (inl (none_in_session answer_of after ms old (each_of KeepsReader ms (keep_reader ms its.steady))))
             (subst (λ (x : Link H). is_due now x.controller ≡ true) l.moved (it.own t.0 t.1 same).0, tt)
             (subst (MovesFit answer_of after (progress.round now)) l.moved fits) in
@@ -185,7 +187,7 @@ module _ {H : Type 0} (answer_of : H → Command → Answer) (after : H → Comm
         subst (λ (e : Entry). (due : ℕ) × (e.controller.session.state ≡ Idle due)) same (is.idles r few own t.0 t.1)
 
     pub each_round_brings_one_more : EachRoundBringsOneMore answer_of after
-    each_round_brings_one_more config readers steps r m wait k old new are few had own at lasts =
+    each_round_brings_one_more config readers steps r m wait k old new are plain few had own at lasts =
         let one : suc m ≡ m + 1 = omega arith in
         let last = ap (λ c. after_rounds answer_of after config readers steps c wait) one ∙ later_is config readers steps wait k m 1 in
         let next = after_round answer_of after laws wait (after_rounds answer_of after config readers steps m wait) in
@@ -194,5 +196,5 @@ module _ {H : Type 0} (answer_of : H → Command → Answer) (after : H → Comm
         let v = unmapped (λ (site : ReaderSite H). site.account) k new next.sites there in
         subst (λ a. BringsOneMore a new) u.2
         (subst (λ b. BringsOneMore u.0.account b) v.2
-        (one_more config readers steps wait k m (subst (λ c. AreRounds answer_of after config readers steps c wait) one are) r few had own
+        (one_more config readers steps wait k m (subst (λ c. AreRounds answer_of after config readers steps c wait) one are) plain r few had own
         (below config readers steps wait k (suc m) new lasts) (no_end k new next (record { there = there; lasts = lasts.lasts })) u.0 v.0 u.1 v.1))

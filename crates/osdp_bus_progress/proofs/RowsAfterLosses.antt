@@ -33,7 +33,7 @@ four_rounds accepts recovers account is lasts =
     let issued : a.issued ≡ out ∷ buz ∷ [] = room.issued.every (omega arith) in
     let queued : a.queued ≡ first_key ∷ [] = room.queued.every (omega arith) in
     let moves : All SetsNoAddress a.issued = subst (All SetsNoAddress) (sym issued) no_moves in
-    let come = recovers config new_handler one_lost 4 400 account is one_session refl (omega arith) moves lasts in
+    let come = recovers config new_handler one_lost 4 400 account is one_session refl (omega arith) refl moves lasts in
     let all = come.all (omega (arith, ap length issued, ap length queued)) in
     record {
       issued = issued;
@@ -92,7 +92,7 @@ six_rounds accepts recovers counts told is a b first second a_lasts b_lasts =
     let none = each_of_two (λ (x : Account). All SetsNoAddress x.issued) list many
     (λ x at. subst (λ (y : Account). All SetsNoAddress y.issued) (same_item (sym first ∙ at)) (subst (All SetsNoAddress) (sym a_issued) no_out_moves))
     (λ x at. subst (λ (y : Account). All SetsNoAddress y.issued) (same_item (sym second ∙ at)) (subst (All SetsNoAddress) (sym b_issued) no_buz_moves)) in
-    let shares = recovers bus readers both_lost 6 400 told is both_sessions (omega arith) none in
+    let shares = recovers bus readers both_lost 6 400 told is both_sessions (omega arith) refl none in
     let its = shares.each 0 first_reader refl in
     let other = shares.each 1 second_reader refl in
     let a_share = subst (HasItsShare handler_answer handler_after 3 0 first_reader) (same_item (sym its.1 ∙ first)) its.2 a_lasts in

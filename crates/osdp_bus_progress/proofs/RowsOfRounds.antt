@@ -37,7 +37,7 @@ three_rounds accepts turns account is =
     let queued : (lists_of account).queued ≡ first_key ∷ second_key ∷ [] = room.queued.every (omega arith) in
     let moves : All SetsNoAddress (lists_of account).issued = subst (All SetsNoAddress) (sym issued) no_moves in
     let t : IsInTurn handler_answer handler_after config new_handler orders 3 (lists_of account) =
-    turns config new_handler orders 3 (Ok account) is are_orders is_set refl (omega arith) (omega arith) moves in
+    turns config new_handler orders 3 (Ok account) is are_orders is_set refl (omega arith) (omega arith) refl moves in
     let settled = t.settled ∙ ap (λ (l : List Command). with_answers handler_answer handler_after config.reader new_handler (take 3 l)) issued in
     record {
       issued = issued;

@@ -56,21 +56,22 @@ module _ {H : Type 0} where
 
   module _ (answer_of : H → Command → Answer) (after : H → Command → H) where
     -- rounds as long as the longest of the four waits, after steps in which no session begins again and that leave the line clear:
-    -- something comes through for each reader whose session has not ended
+    -- something comes through for each reader whose session has not ended, where orders go out one after the other
     abbrev pub EachComesThrough : Type 0
     EachComesThrough = (config : BusConfig) (readers : List (Given H)) (steps : List SimStep) (m wait : ℕ)
         → IsRun answer_of after config readers (steps ++ rounds m wait) → All IsInSession steps → longest_wait (controller_config 0 config) ≤ wait
+        → config.poll_between_orders ≡ false
         → let before = run answer_of after steps (set_up config readers) in
         IsClear before
         → let last = run answer_of after (steps ++ rounds m wait) (set_up config readers) in
         EachComesOn m (length readers) (accounts before) (accounts last)
 
     -- whatever the steps were in which no session begins again: after them the line is cleared, and over m rounds something comes through
-    -- for each reader whose session has not ended, where no COMSET to a device's address was issued
+    -- for each reader whose session has not ended, where orders go out one after the other and no COMSET to a device's address was issued
     abbrev pub EachRecovers : Type 0
     EachRecovers = (config : BusConfig) (readers : List (Given H)) (steps : List SimStep) (m wait : ℕ)
         → IsRun answer_of after config readers ((steps ++ clear (length readers) steps) ++ rounds m wait) → All IsInSession steps
-        → longest_wait (controller_config 0 config) ≤ wait
+        → longest_wait (controller_config 0 config) ≤ wait → config.poll_between_orders ≡ false
         → let before = run answer_of after steps (set_up config readers) in
         NoneMoves (accounts before)
         → let last = run answer_of after ((steps ++ clear (length readers) steps) ++ rounds m wait) (set_up config readers) in
@@ -84,5 +85,5 @@ module _ {H : Type 0} where
     abbrev pub EachAnswerRecovers : Type 0
     EachAnswerRecovers = (config : BusConfig) (readers : List (Given H)) (steps : List SimStep) (m wait : ℕ) (told : Vec declared.Account)
         → IsAnswer answer_of after config readers ((steps ++ clear (length readers) steps) ++ rounds m wait) (Ok told)
-        → All IsInSession steps → longest_wait (controller_config 0 config) ≤ wait → NoneMoves (lists_of_all told.items)
+        → All IsInSession steps → longest_wait (controller_config 0 config) ≤ wait → config.poll_between_orders ≡ false → NoneMoves (lists_of_all told.items)
         → OfEach (HasItsShare (m / length readers)) readers (lists_of_all told.items)

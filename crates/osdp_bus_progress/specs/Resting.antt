@@ -1,5 +1,5 @@
 -- Between the clearing of a line with several readers and the rounds after it, and between these rounds.
-use Rattle.std.specs.Prelude.{◌≡◌, ◌≤◌, ◌<◌, ◌+◌, ℕ, suc, All, List, [], ◌++◌, length, None, Some, slice_get}
+use Rattle.std.specs.Prelude.{◌≡◌, ◌≤◌, ◌<◌, ◌+◌, ℕ, suc, false, All, List, [], ◌++◌, length, None, Some, slice_get}
 use Rattle.osdp_msg.specs.declared.command.Command.{Command}
 use Rattle.osdp_controller.specs.declared.state.State.TheVariants.{Idle}
 use Rattle.osdp_controller_laws.specs.Calls.{longest_wait}
@@ -81,10 +81,10 @@ module _ {H : Type 0} where
         → AreRounds config readers steps m wait → r < m → IsItsRound k wait (after_rounds config readers steps r wait)
         → HasNotEnded k a (after_rounds config readers steps m wait) → IsIdle k (after_rounds config readers steps m wait)
 
-    -- each round of a reader but its first brings one more than the rounds before had brought
+    -- each round of a reader but its first brings one more than the rounds before had brought, where orders go out one after the other
     abbrev pub EachRoundBringsOneMore : Type 0
     EachRoundBringsOneMore = (config : BusConfig) (readers : List (Given H)) (steps : List SimStep) (r m wait k : ℕ) (old new : Account)
-        → AreRounds config readers steps (suc m) wait → r < m → IsItsRound k wait (after_rounds config readers steps r wait)
+        → AreRounds config readers steps (suc m) wait → config.poll_between_orders ≡ false → r < m → IsItsRound k wait (after_rounds config readers steps r wait)
         → IsItsRound k wait (after_rounds config readers steps m wait)
         → slice_get (accounts (after_rounds config readers steps m wait)) k ≡ Some old
         → HasNotEnded k new (after_rounds config readers steps (suc m) wait) → BringsOneMore old new

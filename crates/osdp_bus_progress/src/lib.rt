@@ -24,11 +24,12 @@ fn stands_on_several_links<H: Handler>()
     osdp_controller_laws::ticks_come_due();
 }
 
-/// Of n readers, over m rounds that lose nothing, m / n - 1 more commands and events of each are settled and reported, or all of them. m / n is rounded
-/// down.
+/// Of n readers, over m rounds that lose nothing, m / n - 1 more commands and events of each whose session lasts are settled and reported, or all of them.
+/// m / n is rounded down.
 ///
-/// This is said of each reader whose session has not ended. Each round is as long as the longest of the four waits, or longer. In the steps before the
-/// rounds no session begins again. They leave nothing on the line and no reader busy, and no COMSET to a device's address was issued.
+/// This is said of each reader whose session has not ended, where orders go out one after the other. Each round is as long as the longest of the four
+/// waits, or longer. In the steps before the rounds no session begins again. They leave nothing on the line and no reader busy, and no COMSET to a
+/// device's address was issued.
 pub fn each_comes_through<H: Handler>()
     ensures { EachComesThrough H.answer_of H.after }
 {
@@ -51,8 +52,8 @@ pub fn rests_between_rounds<H: Handler>()
 }
 
 /// A round is of the reader whose controller ticks in it. Of as many rounds as there are readers each reader has one, wherever they begin, where its session
-/// has not ended. Once a reader has had a round its controller is idle after each round. Each round of it but its first settles or reports one more of its
-/// commands and events than the rounds before it had, unless all are.
+/// has not ended. Once a reader has had a round its controller is idle after each round. Where orders go out one after the other, each round of it but its
+/// first settles or reports one more of its commands and events than the rounds before it had, unless all are.
 ///
 /// The steps before the rounds are such as `each_comes_through` asks for.
 pub fn each_round_brings_one_more<H: Handler>()
@@ -65,7 +66,7 @@ pub fn each_round_brings_one_more<H: Handler>()
 
 /// After any steps in which no session begins again, once the line is cleared, as much comes through as after steps that leave nothing on it. To clear a
 /// line is as `rests_between_rounds` has it. Over m such rounds each of n readers whose session has not ended has m / n - 1 more of its commands and events
-/// settled and reported, or all of them. No COMSET to a device's address was issued.
+/// settled and reported, or all of them. Orders go out one after the other, and no COMSET to a device's address was issued.
 ///
 /// So it is of the accounts that are answered where no step is refused and memory suffices: of each such reader m / n - 1 commands and events, or all of
 /// them, are settled and reported. Where m / n is more than all of them, each command issued is settled with this reader's own answer, and each event

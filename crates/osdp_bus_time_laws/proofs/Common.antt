@@ -10,7 +10,7 @@ pub use Rattle.std.proofs.lemmas.List.Elements.{All-cons, All-head, All-nil, All
 pub use Rattle.osdp_controller.specs.declared.state.State.{State}
 pub use Rattle.osdp_controller.specs.declared.state.State.TheVariants.{Closed, Idle, Pausing, Quiet, Waiting}
 pub use Rattle.osdp_controller.specs.Machine.{begin_refusal, is_outstanding, Machine, refused_unless_closed, retarget_refusal}
-pub use Rattle.osdp_controller.specs.Sessions.{seen as seen_by}
+pub use Rattle.osdp_controller.specs.Sessions.{is_poll_next, seen as seen_by}
 pub use Rattle.osdp_controller.specs.States.{is_closed, is_idle}
 pub use Rattle.osdp_time_laws.proofs.Duties.{Due, due_ahead, due_at, due_kept, due_seen, until_of}
 pub use Rattle.osdp_time_laws.proofs.Instances.{reached_in}
@@ -30,6 +30,7 @@ pub use Rattle.osdp_controller.specs.declared.session.Session.{Session}
 pub use Rattle.osdp_controller.specs.Answers.{meaning_of}
 pub use Rattle.osdp_controller.specs.Hearing.{Heard, hears, hears_in, ignores}
 pub use Rattle.osdp_controller.proofs.Choices.{either_way}
+pub use Rattle.osdp_controller.proofs.Idling.{idle_way, poll_way, polls_first}
 pub use Rattle.osdp_controller_laws.proofs.Ticks.{takes_front}
 pub use Rattle.osdp_time_laws.specs.Laws.{is_quiet, IsNotBusy}
 pub use Rattle.osdp_time_laws.specs.Orders.{is_under_way}
@@ -62,7 +63,7 @@ pub use Rattle.osdp_bus_time_laws.specs.Turns.{BeginsBy, EndsBy, HasFew, KeepsTu
 pub use Rattle.osdp_bus_laws.specs.Exchanges.{IsOutstandingAt}
 pub use Rattle.osdp_time_laws.specs.Clock.{is_tick, IsBy as IsByOf, TicksBy}
 pub use Rattle.osdp_controller.specs.Ticking.{ticks}
-pub use Rattle.osdp_time_laws.proofs.Orders.{at_rest, due_idle, lives, next_product}
+pub use Rattle.osdp_time_laws.proofs.Orders.{at_rest, due_idle, in_a_row, lives, next_product}
 pub use Rattle.osdp_bus_laws.proofs.Exchanging.{has_exchange, has_one_exchange}
 pub use Rattle.osdp_time_laws.proofs.Beginnings.{Begins as BeginsOne, begun_tick, Few, no_busy, one_less, whole, whole_is}
 pub use Rattle.osdp_bus_laws.proofs.OneDevice.{heard_holds, heard_told}

@@ -28,7 +28,7 @@ pub same_others : (x late n entry : ℕ) → entry < n → others_of (λ k. x) l
 same_others x late n entry within = ap (λ (m : ℕ). m - (x + late)) (same_turns x late n) ∙ others_by x late n (omega arith)
 
 -- a program that keeps time
-keeps_turns : (late n : ℕ) (call : Call) (calls : List Call) (b : BusState) → Well b → KeepsTime late calls (after_call call b) → HasFew n calls (after_call call b)
+pub keeps_turns : (late n : ℕ) (call : Call) (calls : List Call) (b : BusState) → Well b → KeepsTime late calls (after_call call b) → HasFew n calls (after_call call b)
     → KeepsTurns late (λ entry. exchange_of b late) n calls (after_call call b)
 keeps_turns late n call calls b well in_time few =
     let k = after_call call b in
@@ -42,9 +42,9 @@ keeps_turns late n call calls b well in_time few =
     }
 
 pub orders_in_time : (b : BusState) → Well b → OrdersInTime b
-orders_in_time b well late n entry before command calls accepted in_time few =
+orders_in_time b well late n entry before command calls alone accepted in_time few none =
     subst (λ (t : ℕ). GoesOutBy (b.greatest + (before + 1) * t) before entry calls (after_call (Submit entry command) b)) (same_turns (exchange_of b late) late n)
-    (orders_go_out b well late (λ k. exchange_of b late) n entry before command calls accepted (keeps_turns late n (Submit entry command) calls b well in_time few))
+    (orders_go_out b well late (λ k. exchange_of b late) n entry before command calls alone accepted (keeps_turns late n (Submit entry command) calls b well in_time few) none)
 
 pub openings_in_time : (b : BusState) → Well b → OpeningsInTime b
 openings_in_time b well late n entry now calls accepted in_time few =

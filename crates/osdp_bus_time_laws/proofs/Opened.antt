@@ -49,5 +49,5 @@ openings_begin b well late time n entry now calls accepted keeps =
     let place : AtPlace entry (Ready (k.greatest + wait) 0) k.devices =
     (entry_begins g d, here, (refl, refl, omega arith, inl (omega arith))) in
     subst (λ (limit : ℕ). BeginsBy limit entry calls k) (quiet_wait_of b.config.quiet_wait late (others_of time late n entry) wait k.greatest settings)
-    (has_its_turn late time n entry (k.greatest + wait) 0 calls k well_then keeps.in_time keeps.turns keeps.few (omega arith) place
+    (has_its_turn late time n entry (k.greatest + wait) 0 calls k well_then keeps.in_time keeps.turns keeps.few (inl refl) (omega arith) place
     (λ holding out. ends_later (k.greatest + time holding) (k.greatest + wait + time holding) calls k (omega arith) (keeps.outstanding holding out)))

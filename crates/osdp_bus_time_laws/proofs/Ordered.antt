@@ -1,9 +1,9 @@
 -- The exchanges of an entry, one after the other: an order has its turn after those before it, and a POLL where no command waits.
-use Rattle.osdp_bus_time_laws.proofs.Common.{◌≡◌, ◌∙◌, ap, sym, subst, inl, inr, ℕ, zero, suc, ◌+◌, ◌*◌, ◌≤◌, Bool, true, false, max, List, [], ◌∷◌, length, Option, Some, None, refl, arith, ◌⊎◌, if◌then◌else◌, drop, nat_eq, slice_set, option_map_or, suc-mul, eqb-true, eqb-false, length-append, Command, ControllerConfig, Session, State, Idle, Waiting, Pausing, is_outstanding, is_closed, is_idle, ticks, takes_front, WaitsItsTime, is_under_way, until_of, at_rest, lives, next_product, BusConfig, Entry, BusState, device_of, has_report, entry_ticks, holds, after_submit_at, changed_unless, entry_submits, entry_withdraws, submit_refusal_at, BusTicked, bus_ticks, ticks_with, Call, Submit, Tick, after_call, IsOutstandingAt, Begins, asking, has_one_exchange, begun_ticked, stands_after, moments_are_seen, set_here, KeepsTime, ends_duty, ExchangesComeRound, GoesOutBy, IsUnderWay, OrdersGoOut, BeginsBy, EndsBy, HasFew, KeepsTurns, NoneBegins, TurnsTake, others_of, turns_of}
+use Rattle.osdp_bus_time_laws.proofs.Common.{◌≡◌, ◌∙◌, ap, sym, subst, inl, inr, ℕ, zero, suc, ◌+◌, ◌*◌, ◌≤◌, Bool, true, false, max, List, [], ◌∷◌, length, Option, Some, None, refl, arith, ◌⊎◌, if◌then◌else◌, drop, nat_eq, slice_set, option_map_or, suc-mul, eqb-true, eqb-false, length-append, Command, ControllerConfig, Session, State, Idle, Waiting, Pausing, is_outstanding, is_closed, is_idle, is_poll_next, ticks, takes_front, in_a_row, WaitsItsTime, is_under_way, until_of, at_rest, lives, next_product, BusConfig, Entry, BusState, device_of, has_report, entry_ticks, holds, after_submit_at, changed_unless, entry_submits, entry_withdraws, submit_refusal_at, BusTicked, bus_ticks, ticks_with, Call, Submit, Tick, after_call, IsOutstandingAt, Begins, asking, has_one_exchange, begun_ticked, stands_after, moments_are_seen, set_here, KeepsTime, ends_duty, ExchangesComeRound, GoesOutBy, IsUnderWay, OrdersGoOut, BeginsBy, EndsBy, HasFew, KeepsTurns, NoneBegins, TurnsTake, others_of, turns_of}
 use Rattle.osdp_bus_time_laws.proofs.Devices.{Kept, Well, same_config, well_call}
 use Rattle.osdp_bus_time_laws.proofs.Places.{AtPlace, Outcome, asking_place, call_place, one_device, tick_place}
 use Rattle.osdp_bus_time_laws.proofs.Sums.{all_turns}
-use Rattle.osdp_bus_time_laws.proofs.Turning.{Ready, decide, ends_later, has_its_turn, held_before, is_there, tick_of}
+use Rattle.osdp_bus_time_laws.proofs.Turning.{AllStay, Ready, Stays, decide, ends_later, has_its_turn, held_before, is_there, stay_then, stays_now, still_waiting, tick_of}
 
 -- ---- how many commands wait
 
@@ -12,10 +12,6 @@ Waits least d = least ≤ length d.controller.waiting
 
 waits_submitted : (least : ℕ) (command : Command) (d : Entry) → Waits least d → Waits least (entry_submits command d)
 waits_submitted least command d some = let both = length-append d.controller.waiting (command ∷ []) in omega arith
-
-waits_withdrawn : (least : ℕ) (d : Entry) → Waits least d → is_closed d.controller.session.state ≡ false → Waits least (entry_withdraws d)
-waits_withdrawn least d some stands =
-    subst (λ t. least ≤ length (if t then drop 1 d.controller.waiting else d.controller.waiting)) (sym stands) some
 
 pub not_idle : (state : State) → is_outstanding state ≡ true → is_idle state ≡ false
 not_idle (Waiting until sends o) out = refl
@@ -29,7 +25,7 @@ waits_ticked least g d stands some =
     subst (λ (w : List Command). least ≤ length w) (sym stay) some
 
 module _ (least own : ℕ) (call : Call) (b : BusState) (well : Well b) (stands : (d : Entry) → device_of own b ≡ Some d → is_closed d.controller.session.state ≡ false)
-    (place : AtPlace own (Waits least) b.devices) (not : Begins call own b → ⊥) where
+    (place : AtPlace own (Waits least) b.devices) (stay : Stays least own call b) (not : Begins call own b → ⊥) where
   abbrev g_then : ℕ
   g_then = (after_call call b).greatest
 
@@ -53,7 +49,7 @@ module _ (least own : ℕ) (call : Call) (b : BusState) (well : Well b) (stands 
 
   wait_by : (t : Bool) → ends_duty call b ≡ t → AtPlace own (Waits least) (after_call call b).devices
   wait_by false other =
-      call_place g_then (Waits least) (λ p d some. some) own (waits_submitted least) (waits_withdrawn least) call b other refl stands place
+      call_place g_then (Waits least) (λ p d some. some) own (waits_submitted least) call b (still_waiting least own call b stay) other refl stands place
   wait_by true ends = let tick = tick_of call b ends in wait_tick tick.0 tick.1 tick.2
 
   still_wait : AtPlace own (Waits least) (after_call call b).devices
@@ -68,7 +64,12 @@ ticks_take least now s w some = by_idle (is_idle s.state) refl w some
         subst (λ (l : List Command). least ≤ length l) (sym ((takes_front now s w).stay other)) (omega arith)
     by_idle true idle [] some = absurd (omega arith)
     by_idle true idle (command ∷ rest) some =
-        subst (λ (l : List Command). least ≤ length l) (sym ((takes_front now s (command ∷ rest)).front command rest idle refl).1) (omega arith)
+        by_next (is_poll_next s) refl
+      where
+        by_next : (t : Bool) → is_poll_next s ≡ t → least ≤ length (ticks now s (command ∷ rest)).waiting
+        by_next false may =
+            subst (λ (l : List Command). least ≤ length l) (sym ((takes_front now s (command ∷ rest)).front command rest idle may refl).1) (omega arith)
+        by_next true next = subst (λ (l : List Command). least ≤ length l) (sym ((takes_front now s (command ∷ rest)).first idle next).1) (omega arith)
 
 begun_waits : (least own : ℕ) (call : Call) (b : BusState) → AtPlace own (Waits (least + 1)) b.devices → Begins call own b
     → AtPlace own (Waits least) (after_call call b).devices
@@ -92,12 +93,12 @@ begun_fits : (g time late others turns wait more limit bound : ℕ) → others +
     → ((g + time) + wait) + late + others + more ≤ limit
 begun_fits g time late others turns wait more limit bound all near fits = omega arith
 
--- an exchange begins of an entry that is open: at once where a command waits, or so much later
+-- an exchange begins of an entry that is open: at once where a command waits and orders go out one after the other, or so much later
 abbrev Begun : ℕ → ℕ → BusState → Type 0
-Begun wait least b = (1 ≤ least) ⊎ (b.config.poll_interval ≤ wait)
+Begun wait least b = ((1 ≤ least) × (b.config.poll_between_orders ≡ false)) ⊎ (b.config.poll_interval ≤ wait)
 
 begun_then : (wait least : ℕ) (call : Call) (b : BusState) → Begun wait least b → Begun wait least (after_call call b)
-begun_then wait least call b (inl some) = inl some
+begun_then wait least call b (inl some) = inl (some.0, ap (λ (c : BusConfig). c.poll_between_orders) (same_config call b) ∙ some.1)
 begun_then wait least call b (inr interval) = inr (subst (λ (c : BusConfig). c.poll_interval ≤ wait) (sym (same_config call b)) interval)
 
 -- the moment from which an open entry is due
@@ -115,7 +116,9 @@ rest_due wait e b d kept idle near interval = by_state d.controller.session.stat
 rest_ready : (wait least e : ℕ) (b : BusState) (d : Entry) → Kept b.config b.greatest d → is_under_way d.controller.session.state ≡ true → holds d ≡ false
     → least ≤ length d.controller.waiting → b.greatest ≤ e → Begun wait least b → Ready (e + wait) least d
 rest_ready wait least e b d kept under none some near (inl one) =
-    let state = d.controller.session.state in (lives state under, none, some, inr (at_rest state under none, one))
+    let s = d.controller.session in
+    let may = in_a_row s (ap (λ (c : ControllerConfig). c.poll_between_orders) kept.config ∙ one.1) in
+    (lives s.state under, none, some, inr (at_rest s.state under none, may, one.0))
 rest_ready wait least e b d kept under none some near (inr interval) =
     let state = d.controller.session.state in
     (lives state under, none, some, inl (rest_due wait e b d kept (at_rest state under none) near interval))
@@ -193,13 +196,14 @@ module _ (late : ℕ) (time : ℕ → ℕ) (n own limit wait : ℕ) (need : ℕ 
 
     -- none of the entry begins
     module _ (before : ℕ) (way : Way before (call ∷ calls) b under.device) (not : Begins call own b → ⊥) (in_time : KeepsTime late calls (after_call call b))
-        (few_then : HasFew n calls (after_call call b)) (began : Begun wait (need before) b) (next : IsUnderWay own (after_call call b)) where
+        (few_then : HasFew n calls (after_call call b)) (stay : AllStay (need before) own (call ∷ calls) b) (began : Begun wait (need before) b)
+        (next : IsUnderWay own (after_call call b)) where
       waits_then : AtPlace own (Waits (need before)) (after_call call b).devices
       waits_then =
           still_wait (need before) own call b well
           (λ f here. let one = one_device (device_of own b) under.device f under.there here in
           subst (λ (k : Entry). is_closed k.controller.session.state ≡ false) one (lives under.device.controller.session.state under.under_way))
-          way.waits not
+          way.waits (stays_now (need before) own call calls b stay) not
 
       out_by : holds next.device ≡ true → ((k : ℕ) × Begins call k b) ⊎ NoneBegins call b
           → (e : ℕ) × EndsBy e calls (after_call call b) × ((e + wait) + late + others_of time late n own + before * (wait + turns_of time late n) ≤ limit)
@@ -235,7 +239,7 @@ module _ (late : ℕ) (time : ℕ → ℕ) (n own limit wait : ℕ) (need : ℕ 
           let some : need before ≤ length next.device.controller.waiting = subst (Waits (need before)) one waits_then.2 in
           let kept = (well_call call b well).devices own next.device next.there in (
             (out.0 + wait) + late + others,
-            has_its_turn late time n own (out.0 + wait) (need before) calls (after_call call b) (well_call call b well) in_time turns_take.1 few_then (omega arith)
+            has_its_turn late time n own (out.0 + wait) (need before) calls (after_call call b) (well_call call b well) in_time turns_take.1 few_then (stay_then (need before) own call calls b stay) (omega arith)
                 (next.device, next.there, rest_ready wait (need before) out.0 (after_call call b) next.device kept next.under_way none some soon (begun_then wait (need before) call b began))
                 (λ k held. ends_later (out.0 + time k) (out.0 + wait + time k) calls (after_call call b) (omega arith) (ends_then out.0 soon stands none (decide call b) k held)),
             out.2,
@@ -249,22 +253,25 @@ module _ (late : ℕ) (time : ℕ → ℕ) (n own limit wait : ℕ) (need : ℕ 
       }
 
   pub goes_out : (before : ℕ) (calls : List Call) (b : BusState) → Well b → KeepsTime late calls b → TurnsTake time calls b → HasFew n calls b
-      → ((k : ℕ) → Begun wait (need k) b) → Ways before calls b → GoesOutBy limit before own calls b
-  goes_out before [] b well in_time take few began ways = tt
-  goes_out zero (call ∷ calls) b well in_time take few began ways = λ under. (
+      → ((k : ℕ) → AllStay (need k) own calls b) → ((k : ℕ) → Begun wait (need k) b) → Ways before calls b → GoesOutBy limit before own calls b
+  goes_out before [] b well in_time take few stay began ways = tt
+  goes_out zero (call ∷ calls) b well in_time take few stay began ways = λ under. (
     near_limit call calls b well take few under zero (ways under),
     λ not.
-        goes_out zero calls (after_call call b) (well_call call b well) in_time.1 take.1 few.1 (λ k. begun_then wait (need k) call b (began k))
-        (ways_then call calls b well take few under zero (ways under) not in_time.1 few.1 (began zero)),
+        goes_out zero calls (after_call call b) (well_call call b well) in_time.1 take.1 few.1 (λ k. stay_then (need k) own call calls b (stay k))
+        (λ k. begun_then wait (need k) call b (began k))
+        (ways_then call calls b well take few under zero (ways under) not in_time.1 few.1 (stay zero) (began zero)),
   )
-  goes_out (suc before) (call ∷ calls) b well in_time take few began ways = λ under. (
+  goes_out (suc before) (call ∷ calls) b well in_time take few stay began ways = λ under. (
     near_limit call calls b well take few under (suc before) (ways under),
     λ begun.
-        goes_out before calls (after_call call b) (well_call call b well) in_time.1 take.1 few.1 (λ k. begun_then wait (need k) call b (began k))
+        goes_out before calls (after_call call b) (well_call call b well) in_time.1 take.1 few.1 (λ k. stay_then (need k) own call calls b (stay k))
+        (λ k. begun_then wait (need k) call b (began k))
         (ways_begun call calls b well take few under before (ways under) begun),
     λ not.
-        goes_out (suc before) calls (after_call call b) (well_call call b well) in_time.1 take.1 few.1 (λ k. begun_then wait (need k) call b (began k))
-        (ways_then call calls b well take few under (suc before) (ways under) not in_time.1 few.1 (began (suc before))),
+        goes_out (suc before) calls (after_call call b) (well_call call b well) in_time.1 take.1 few.1 (λ k. stay_then (need k) own call calls b (stay k))
+        (λ k. begun_then wait (need k) call b (began k))
+        (ways_then call calls b well take few under (suc before) (ways under) not in_time.1 few.1 (stay (suc before)) (began (suc before))),
   )
 
 -- ---- from its acceptance on
@@ -289,7 +296,7 @@ idle_fits g k time late others turns wait more all same sum product = omega arit
 
 -- from any moment on at which its session is under way
 module _ (late : ℕ) (time : ℕ → ℕ) (n own wait before : ℕ) (need : ℕ → ℕ) (fewer : (k : ℕ) → (need (suc k) ≡ need k + 1) ⊎ (need k ≡ 0)) (calls : List Call) (b : BusState) (well : Well b)
-    (keeps : KeepsTurns late time n calls b) (began : (k : ℕ) → Begun wait (need k) b) (waits : AtPlace own (Waits (need before)) b.devices) where
+    (keeps : KeepsTurns late time n calls b) (stay : (k : ℕ) → AllStay (need k) own calls b) (began : (k : ℕ) → Begun wait (need k) b) (waits : AtPlace own (Waits (need before)) b.devices) where
   abbrev all : ℕ
   all = (before + 1) * (wait + turns_of time late n)
 
@@ -311,7 +318,7 @@ module _ (late : ℕ) (time : ℕ → ℕ) (n own wait before : ℕ) (need : ℕ
         );
         idle = λ none. (
           (b.greatest + wait) + late + others_of time late n own,
-          has_its_turn late time n own (b.greatest + wait) (need before) calls b well keeps.in_time keeps.turns keeps.few (omega arith)
+          has_its_turn late time n own (b.greatest + wait) (need before) calls b well keeps.in_time keeps.turns keeps.few (stay before) (omega arith)
               (d, under.there, rest_ready wait (need before) b.greatest b d (well.devices own d under.there) under.under_way none some (omega arith) (began before))
               (λ holding out. ends_later (b.greatest + time holding) (b.greatest + wait + time holding) calls b (omega arith) (keeps.outstanding holding out)),
           idle_fits b.greatest b.greatest (time own) late (others_of time late n own) (turns_of time late n) wait more all refl sum product,
@@ -319,24 +326,25 @@ module _ (late : ℕ) (time : ℕ → ℕ) (n own wait before : ℕ) (need : ℕ
       }
 
   goes_out_from : GoesOutBy (b.greatest + all) before own calls b
-  goes_out_from = goes_out late time n own (b.greatest + all) wait need fewer before calls b well keeps.in_time keeps.turns keeps.few began way_from
+  goes_out_from = goes_out late time n own (b.greatest + all) wait need fewer before calls b well keeps.in_time keeps.turns keeps.few stay began way_from
 
 pub orders_go_out : (b : BusState) → Well b → OrdersGoOut b
-orders_go_out b well late time n entry before command calls accepted keeps =
+orders_go_out b well late time n entry before command calls alone accepted keeps none =
     let k = after_call (Submit entry command) b in
     let under = accepted.under_way in
     let d = under.device in
     let here = accepted_at entry command d b accepted.accepted under.there in
     let moment : k.greatest ≡ b.greatest = (moments_are_seen b).kept (Submit entry command) (λ at brings. brings) in
     let turns = turns_of time late n in
+    let settings = ap (λ (c : BusConfig). c.poll_between_orders) (same_config (Submit entry command) b) ∙ alone in
     let wait : before + 1 ≤ length (entry_submits command d).controller.waiting =
     (let both = length-append d.controller.waiting (command ∷ []) in let place : length d.controller.waiting ≡ before = accepted.place in omega arith) in
     subst (λ (g : ℕ). GoesOutBy (g + (before + 1) * turns) before entry calls k) moment
     (subst (λ (t : ℕ). GoesOutBy (k.greatest + (before + 1) * t) before entry calls k) (let none : 0 + turns ≡ turns = omega arith in none)
-    (goes_out_from late time n entry 0 before (λ more. more + 1) (λ more. inl (omega arith)) calls k (well_call (Submit entry command) b well) keeps (λ more. inl (omega arith))
+    (goes_out_from late time n entry 0 before (λ more. more + 1) (λ more. inl (omega arith)) calls k (well_call (Submit entry command) b well) keeps (λ more. inr none) (λ more. inl (omega arith, settings))
     (entry_submits command d, here, wait)))
 
 pub polls_go_out : (b : BusState) → Well b → ExchangesComeRound b
 polls_go_out b well late time n entry before calls under keeps =
-    goes_out_from late time n entry b.config.poll_interval before (λ more. 0) (λ more. inr refl) calls b well keeps (λ more. inr (omega arith))
+    goes_out_from late time n entry b.config.poll_interval before (λ more. 0) (λ more. inr refl) calls b well keeps (λ more. inl refl) (λ more. inr (omega arith))
     (under.device, under.there, omega arith)

@@ -1,6 +1,6 @@
 -- The exchange that is outstanding ends in time.
 use Rattle.std.proofs.Common.{◌≡◌, ◌∙◌, ◌⊎◌, ap, sym, subst, inl, inr, ℕ, ◌+◌, ◌≤◌, ◌<◌, ◌||◌, Bool, true, false, max, List, [], ◌∷◌, Some, refl, arith}
-use Rattle.osdp_bus_time_laws.proofs.Common.{All, is_some, nat_le, All-head, All-tail, Packet, next_sequence, Command, ControllerConfig, Opening, Polling, Session, State, Closed, Quiet, Idle, Waiting, Pausing, hears, is_outstanding, seen_by, is_closed, either_way, CallOf, HearOf, TickOf, after_call_of, hears_at_moment, longest_exchange, TicksBy, is_tick, IsNotBusy, BeginsOne, Few, begun_tick, one_less, whole, whole_is, Due, due_ahead, due_at, due_kept, due_seen, until_of, tick_at_moment, Holds, Phase, frame_holds, phase_near, phase_passed, phase_seen, still, tick_holds, timely_then, Entry, BusState, device_of, has_report, seen, acts, entry_hears, entry_ticks, holds, is_entry_due, controller_config, BusTicked, bus_ticks, ticks_with, Call, Tick, after_call, IsOutstandingAt, Begins, asking, judged, has_one_exchange, Who, begun_ticked, stands_after, who, moments_are_seen, heard_holds, is_false, SoundBus, sound_run, sound_seen, sound_silent, begins_frame, set_here, still_free, DoneBy, IsOwed, KeepsTime, ends_duty, ExchangesEnd, exchange_of, EndsBy, NoneBegins, OutstandingTakes, TurnsTake}
+use Rattle.osdp_bus_time_laws.proofs.Common.{All, is_some, nat_le, All-head, All-tail, Packet, Command, ControllerConfig, Opening, Session, State, Closed, Quiet, Idle, Waiting, Pausing, hears, is_outstanding, seen_by, is_closed, either_way, idle_way, CallOf, HearOf, TickOf, after_call_of, hears_at_moment, longest_exchange, TicksBy, is_tick, IsNotBusy, BeginsOne, Few, begun_tick, one_less, whole, whole_is, Due, due_ahead, due_at, due_kept, due_seen, until_of, tick_at_moment, Holds, Phase, frame_holds, phase_near, phase_passed, phase_seen, still, tick_holds, timely_then, Entry, BusState, device_of, has_report, seen, acts, entry_hears, entry_ticks, holds, is_entry_due, controller_config, BusTicked, bus_ticks, ticks_with, Call, Tick, after_call, IsOutstandingAt, Begins, asking, judged, has_one_exchange, Who, begun_ticked, stands_after, who, moments_are_seen, heard_holds, is_false, SoundBus, sound_run, sound_seen, sound_silent, begins_frame, set_here, still_free, DoneBy, IsOwed, KeepsTime, ends_duty, ExchangesEnd, exchange_of, EndsBy, NoneBegins, OutstandingTakes, TurnsTake}
 use Rattle.std.proofs.lemmas.Bool.Decides.{leb_tells}
 use Rattle.osdp_msg.specs.ReplyTable as replies
 use Rattle.osdp_controller.specs.Ticking.{Ticked, begins, stays, ticks_in}
@@ -220,7 +220,7 @@ module _ (late e : ℕ) (c : ControllerConfig) (more : ℕ) (many : c.sends ≡ 
     place_other : ends_duty call b ≡ false → After
     place_other other none =
         let place =
-        call_place g (On (x ∷ l) g) hears_on entry (λ command f on. on) (λ f on lives. on) call b other refl
+        call_place g (On (x ∷ l) g) hears_on entry (λ command f on. on) call b (λ at is same f there on. on) other refl
         (λ f here. let one = one_device (device_of entry b) d f there here in
         subst (λ (k : Entry). is_closed k.controller.session.state ≡ false) one (stands_not_closed d stands))
         (d, there, on_now) in
@@ -276,9 +276,7 @@ Began t = is_some t.step.frame ≡ true → BeginsOne t
 began : (state : State) (s : Session) (w : List Command) → is_outstanding state ≡ false → Began (ticks_in state s w)
 began Closed s w out = λ h. cc
 began (Quiet until) s w out = either_way Began (nat_le until s.greatest) (begins Opening 0 s w) (stays s w) (λ b h. refl) (λ b h. cc)
-began (Idle due) s (command ∷ w) out = λ h. refl
-began (Idle due) s [] out =
-    either_way Began (nat_le due s.greatest) (begins Polling (next_sequence s.number) s []) (stays s []) (λ b h. refl) (λ b h. cc)
+began (Idle due) s w out = idle_way Began due s w (λ b h. refl) (λ b h. cc) (λ command rest has h. refl)
 began (Waiting until sends o) s w out = cc
 began (Pausing until o) s w out = cc
 

@@ -102,7 +102,7 @@ module _ (g : ℕ) (Q : Entry → Type 0) (heard : (p : Packet) (d : Entry) → 
       subst (λ (n : ℕ). AtPlace entry Q (hears_items n (items ended held) ds)) (sym is)
       (items_keep g (AtPlace entry Q) packet_place (items ended held) ds place)
 
-  run_place : (b : BusState) → b.greatest ≡ g → AtPlace entry Q b.devices → AtPlace entry Q (ends_run b).devices
+  pub run_place : (b : BusState) → b.greatest ≡ g → AtPlace entry Q b.devices → AtPlace entry Q (ends_run b).devices
   run_place b is place = items_place b.greatest true b.held b.devices is place
 
   abbrev Placed : BusState → Type 0
@@ -120,7 +120,7 @@ module _ (g : ℕ) (Q : Entry → Type 0) (heard : (p : Packet) (d : Entry) → 
   pub asking_place : (now : ℕ) (b : BusState) → max b.greatest now ≡ g → Placed b → Placed (asking now b)
   asking_place now b is place = run_place (judged now b) (judged_moment now b is) (judged_place now b is place)
 
-  bytes_place : (bytes : List ℕ) (now : ℕ) (b : BusState) → max b.greatest now ≡ g → Placed b → Placed (after_bytes bytes now b)
+  pub bytes_place : (bytes : List ℕ) (now : ℕ) (b : BusState) → max b.greatest now ≡ g → Placed b → Placed (after_bytes bytes now b)
   bytes_place [] now b is place = place
   bytes_place (byte ∷ bytes) now b is place =
       let e = judged now b in
@@ -131,35 +131,37 @@ module _ (g : ℕ) (Q : Entry → Type 0) (heard : (p : Packet) (d : Entry) → 
   Submitted call b = (at : ℕ) (command : Command) → call ≡ Submit at command → entry ≡ at → submit_refusal_at at command b ≡ None → (d : Entry)
       → device_of at b ≡ Some d → Q d → Q (entry_submits command d)
 
-  module _ (withdrawn : (d : Entry) → Q d → is_closed d.controller.session.state ≡ false → Q (entry_withdraws d)) where
-    -- a call that ends no duty: no tick, or one while a report waits
-    pub place_then : (call : Call) (b : BusState) → Submitted call b → ends_duty call b ≡ false → (after_call call b).greatest ≡ g → Lives Q entry b → Placed b
-        → Placed (after_call call b)
-    place_then (Add address) b submitted other moment lives place =
-        unless_place Q entry (add_refusal address b) b (after_add address b) place
-        (λ ok. (place.0, in_front b.devices.entries (new_device address b.config) entry place.0 place.1, place.2))
-    place_then (Begin at now) b submitted other moment lives place =
-        unless_place Q entry (begin_refusal_at at b) b (after_begin_at at now b) place (begin_place Q entry at now b lives place)
-    place_then (Submit at command) b submitted other moment lives place =
-        unless_place Q entry (submit_refusal_at at command b) b (after_submit_at at command b) place
-        (λ ok. changed_place Q entry (entry_submits command) at b (λ same d there is. submitted at command refl same ok d there is) place)
-    place_then (Withdraw at) b submitted other moment lives place =
-        changed_place Q entry entry_withdraws at b (λ same d there is. withdrawn d is (lives d (ap (λ n. device_of n b) same ∙ there))) place
-    place_then (Retarget at address) b submitted other moment lives place =
-        unless_place Q entry (retarget_refusal_at at address b) b (after_retarget_at at address b) place (retarget_place Q entry at address b lives place)
-    place_then (OnBytes bytes now) b submitted other moment lives place =
-        bytes_place bytes now b (sym ((moments_are_seen b).brought (OnBytes bytes now) now refl) ∙ moment) place
-    place_then (OnSilence now) b submitted other moment lives place =
-        run_place (seen now b) (sym ((moments_are_seen b).brought (OnSilence now) now refl) ∙ moment) place
-    place_then (Tick now) b submitted other moment lives place =
-        subst (λ (t : BusTicked). Placed t.bus)
-        (sym (ap (λ t. if t then stays (seen now b) else ticks_on (judged now b)) (is_true (has_report b) other))) place
-    place_then NextReport b submitted other moment lives place = place
+  -- .. and a taken back one
+  abbrev pub Withdrawn : Call → BusState → Type 0
+  Withdrawn call b = (at : ℕ) → call ≡ Withdraw at → entry ≡ at → (d : Entry) → device_of at b ≡ Some d → Q d → Q (entry_withdraws d)
 
-  module _ (submitted : (command : Command) (d : Entry) → Q d → Q (entry_submits command d))
-      (withdrawn : (d : Entry) → Q d → is_closed d.controller.session.state ≡ false → Q (entry_withdraws d)) where
-    pub call_place : (call : Call) (b : BusState) → ends_duty call b ≡ false → (after_call call b).greatest ≡ g → Lives Q entry b → Placed b → Placed (after_call call b)
-    call_place call b = place_then withdrawn call b (λ at command is same ok d there q. submitted command d q)
+  -- a call that ends no duty: no tick, or one while a report waits
+  pub place_then : (call : Call) (b : BusState) → Submitted call b → Withdrawn call b → ends_duty call b ≡ false → (after_call call b).greatest ≡ g → Lives Q entry b → Placed b
+      → Placed (after_call call b)
+  place_then (Add address) b submitted withdrawn other moment lives place =
+      unless_place Q entry (add_refusal address b) b (after_add address b) place
+      (λ ok. (place.0, in_front b.devices.entries (new_device address b.config) entry place.0 place.1, place.2))
+  place_then (Begin at now) b submitted withdrawn other moment lives place =
+      unless_place Q entry (begin_refusal_at at b) b (after_begin_at at now b) place (begin_place Q entry at now b lives place)
+  place_then (Submit at command) b submitted withdrawn other moment lives place =
+      unless_place Q entry (submit_refusal_at at command b) b (after_submit_at at command b) place
+      (λ ok. changed_place Q entry (entry_submits command) at b (λ same d there is. submitted at command refl same ok d there is) place)
+  place_then (Withdraw at) b submitted withdrawn other moment lives place =
+      changed_place Q entry entry_withdraws at b (λ same d there is. withdrawn at refl same d there is) place
+  place_then (Retarget at address) b submitted withdrawn other moment lives place =
+      unless_place Q entry (retarget_refusal_at at address b) b (after_retarget_at at address b) place (retarget_place Q entry at address b lives place)
+  place_then (OnBytes bytes now) b submitted withdrawn other moment lives place =
+      bytes_place bytes now b (sym ((moments_are_seen b).brought (OnBytes bytes now) now refl) ∙ moment) place
+  place_then (OnSilence now) b submitted withdrawn other moment lives place =
+      run_place (seen now b) (sym ((moments_are_seen b).brought (OnSilence now) now refl) ∙ moment) place
+  place_then (Tick now) b submitted withdrawn other moment lives place =
+      subst (λ (t : BusTicked). Placed t.bus)
+      (sym (ap (λ t. if t then stays (seen now b) else ticks_on (judged now b)) (is_true (has_report b) other))) place
+  place_then NextReport b submitted withdrawn other moment lives place = place
+
+  module _ (submitted : (command : Command) (d : Entry) → Q d → Q (entry_submits command d)) where
+    pub call_place : (call : Call) (b : BusState) → Withdrawn call b → ends_duty call b ≡ false → (after_call call b).greatest ≡ g → Lives Q entry b → Placed b → Placed (after_call call b)
+    call_place call b withdrawn = place_then call b (λ at command is same ok d there q. submitted command d q) withdrawn
 
   -- ---- a tick while no report waits: an exchange begins; or the device doesn't tick, and holds the line only before it is due; or it holds the line, is due
   -- and ticks

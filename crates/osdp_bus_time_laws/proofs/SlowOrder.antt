@@ -68,6 +68,7 @@ pub order_is_reached : OrderIsReached
 unfolding items left_over decided reply_of reply_fault reply_at
 order_is_reached = record {
   config = short_config;
+  in_a_row = refl;
   accepted = record {
     under_way = record { device = device_in both_open.devices.entries 0; there = refl; under_way = refl };
     accepted = refl;

@@ -22,7 +22,7 @@ open_are_asked b well late time n entry calls idle keeps =
     let parts = idle_lives d.controller.session.state idle.idle in
     let due = rest_due b.config.poll_interval b.greatest b d (well.devices entry d idle.there) idle.idle (omega arith) (omega arith) in
     subst (λ (limit : ℕ). BeginsBy limit entry calls b) (interval_first b.greatest b.config.poll_interval late (others_of time late n entry))
-    (has_its_turn late time n entry (b.greatest + b.config.poll_interval) 0 calls b well keeps.in_time keeps.turns keeps.few (omega arith)
+    (has_its_turn late time n entry (b.greatest + b.config.poll_interval) 0 calls b well keeps.in_time keeps.turns keeps.few (inl refl) (omega arith)
     (d, idle.there, (parts.0, parts.1, omega arith, inl due))
     (λ k out. ends_later (b.greatest + time k) (b.greatest + b.config.poll_interval + time k) calls b (omega arith) (keeps.outstanding k out)))
 

@@ -1,6 +1,11 @@
 -- An entry that is due from a moment on has its turn: a turn of each other entry later at the most.
-use Rattle.osdp_bus_time_laws.proofs.Common.{◌≡◌, ◌∙◌, ap, sym, subst, inl, inr, ℕ, zero, suc, ◌+◌, ◌≤◌, ◌<◌, ◌||◌, Bool, true, false, max, List, [], ◌∷◌, ◌++◌, length, Option, Some, None, refl, arith, ◌⊎◌, ◌≢◌, if◌then◌else◌, drop, is_some, nat_eq, nat_lt, not, slice_get, eqb-true, eqb-false, ltb-true, ltb-false, length-append, items, Packet, Command, State, Heard, is_outstanding, seen_by, is_closed, is_idle, CallOf, TicksBy, is_tick, Due, due_kept, due_seen, until_of, due_idle, Entry, BusState, Devices, device_of, has_report, holder, is_silent, seen, waiting_after, acts, entry_hears, holds, is_entry_due, told_of, ends_run, hears_items, hears_with, entry_submits, entry_withdraws, bus_ticks, next_due, Call, Begin, OnBytes, OnSilence, Tick, after_call, IsOutstandingAt, Begins, IsBefore, IsDueEntry, IsFree, asking, judged, has_exchange, items_keep, moments_are_seen, heard_holds, heard_told, IsAt, is_false, replaced, IsNobody, nobody, either_way, stays_silent, due_is_next, none_is_due, takes_turns, DoneBy, IsOwed, KeepsTime, ends_duty, BeginsBy, EndsBy, HasFew, NoneBegins, TurnsTake, others_of}
+use Rattle.osdp_bus_time_laws.proofs.Common.{◌≡◌, ◌∙◌, ap, sym, subst, inl, inr, ℕ, zero, suc, ◌+◌, ◌≤◌, ◌<◌, ◌||◌, Bool, true, false, max, List, [], ◌∷◌, ◌++◌, length, Option, Some, None, refl, arith, ◌⊎◌, ◌≢◌, if◌then◌else◌, drop, is_some, nat_eq, nat_lt, not, slice_get, eqb-true, eqb-false, ltb-true, ltb-false, length-append, items, Packet, Command, Session, Heard, is_poll_next, is_outstanding, seen_by, is_closed, is_idle, CallOf, TicksBy, is_tick, Due, due_kept, due_seen, until_of, due_idle, Entry, BusState, Devices, device_of, has_report, holder, is_silent, seen, waiting_after, acts, entry_hears, holds, is_entry_due, told_of, ends_run, hears_items, hears_with, entry_submits, entry_withdraws, bus_ticks, next_due, Call, Begin, OnBytes, OnSilence, Tick, after_call, IsOutstandingAt, Begins, IsBefore, IsDueEntry, IsFree, asking, judged, has_exchange, items_keep, moments_are_seen, heard_holds, heard_told, IsAt, is_false, replaced, IsNobody, nobody, either_way, stays_silent, due_is_next, none_is_due, takes_turns, DoneBy, IsOwed, KeepsTime, ends_duty, BeginsBy, EndsBy, HasFew, NoneBegins, TurnsTake, others_of}
+use Rattle.std.specs.Prelude.{Ok}
+use Rattle.osdp_controller.specs.Held.{on_its_way}
 use Rattle.osdp_controller.specs.declared.report.Report.{Report}
+use Rattle.osdp_bus.specs.Machine.{withdrawal_at, withdrawal_of, withdrawn_of}
+use Rattle.osdp_bus_laws.specs.Calls.{Withdraw}
+use Rattle.osdp_bus_time_laws.specs.Laws.{TakesNoneBack}
 use Rattle.osdp_controller_laws.proofs.Stepwise.{frames_in_steps}
 use Rattle.osdp_bus_laws.proofs.Fairness.{Quiet, Who, quiet_asking, quiet_judged, stands_after, turn_after, who}
 use Rattle.osdp_bus_time_laws.proofs.Devices.{Well, well_call}
@@ -106,49 +111,84 @@ is_free now b well none free =
         either_way (λ (c : BusState). is_some c.devices.report ≡ false) (is_silent (seen now b)) (ends_run (seen now b)) (seen now b)
         (λ h. (nothing_items (seen now b).greatest true b.held b.devices (nobody b free, none)).1) (λ h. none)
 
--- ---- an entry that is ready: due from a moment on, or at once where a command waits; so many wait at the least
+-- ---- an entry that is ready: due from a moment on, or at once where a command waits and no POLL has to come first; so many wait at the least
 
-abbrev pub IsReady : ℕ → ℕ → State → ℕ → Type 0
-IsReady from least state wait =
-    (is_closed state ≡ false) × (is_outstanding state ≡ false) × (least ≤ wait) × ((until_of state ≤ from) ⊎ ((is_idle state ≡ true) × (1 ≤ least)))
+-- a command that waits is asked at once, where no POLL has to come first
+abbrev pub AsksAtOnce : ℕ → Session → Type 0
+AsksAtOnce least s = (is_idle s.state ≡ true) × (is_poll_next s ≡ false) × (1 ≤ least)
+
+abbrev pub IsReady : ℕ → ℕ → Session → ℕ → Type 0
+IsReady from least s wait =
+    (is_closed s.state ≡ false) × (is_outstanding s.state ≡ false) × (least ≤ wait) × ((until_of s.state ≤ from) ⊎ AsksAtOnce least s)
 
 abbrev pub Ready : ℕ → ℕ → Entry → Type 0
-Ready from least d = IsReady from least d.controller.session.state (length d.controller.waiting)
+Ready from least d = IsReady from least d.controller.session (length d.controller.waiting)
 
 due_by : (from least at : ℕ) (d : Entry) → from ≤ at → is_closed d.controller.session.state ≡ false → least ≤ length d.controller.waiting
-    → ((until_of d.controller.session.state ≤ from) ⊎ ((is_idle d.controller.session.state ≡ true) × (1 ≤ least))) → is_entry_due at d ≡ true
+    → ((until_of d.controller.session.state ≤ from) ⊎ AsksAtOnce least d.controller.session) → is_entry_due at d ≡ true
 due_by from least at d near lives some (inl before) = due_then d at lives (omega arith)
-due_by from least at d near lives some (inr (idle, one)) =
-    due_idle d.controller.session.state (seen_by at d.controller.session) d.controller.waiting idle (omega arith)
+due_by from least at d near lives some (inr (idle, may, one)) =
+    due_idle d.controller.session.state (seen_by at d.controller.session) d.controller.waiting idle may (omega arith)
 
 pub ready_due : (from least at : ℕ) (d : Entry) → from ≤ at → Ready from least d → is_entry_due at d ≡ true
 ready_due from least at d near ready = due_by from least at d near ready.0 ready.2 ready.3
 
-more_waits : (from least wait next : ℕ) (state : State) → wait ≤ next → IsReady from least state wait → IsReady from least state next
-more_waits from least wait next state more ready = (ready.0, ready.1, (let some : least ≤ wait = ready.2 in omega arith), ready.3)
+more_waits : (from least wait next : ℕ) (s : Session) → wait ≤ next → IsReady from least s wait → IsReady from least s next
+more_waits from least wait next s more ready = (ready.0, ready.1, (let some : least ≤ wait = ready.2 in omega arith), ready.3)
 
 pub ready_heard : (from least g : ℕ) (p : Packet) (d : Entry) → Ready from least d → Ready from least (entry_hears p g d)
 ready_heard from least g p d ready =
     let ignored = (frames_in_steps p g d.controller.session).not_outstanding ready.1 in
-    subst (λ (h : Heard). IsReady from least h.session.state (length d.controller.waiting)) (sym ignored) ready
+    subst (λ (h : Heard). IsReady from least h.session (length d.controller.waiting)) (sym ignored) ready
 
 ready_submitted : (from least : ℕ) (command : Command) (d : Entry) → Ready from least d → Ready from least (entry_submits command d)
 ready_submitted from least command d ready =
-    more_waits from least (length d.controller.waiting) (length (d.controller.waiting ++ command ∷ [])) d.controller.session.state
+    more_waits from least (length d.controller.waiting) (length (d.controller.waiting ++ command ∷ [])) d.controller.session
     (let both = length-append d.controller.waiting (command ∷ []) in omega arith) ready
 
-ready_withdrawn : (from least : ℕ) (d : Entry) → Ready from least d → is_closed d.controller.session.state ≡ false → Ready from least (entry_withdraws d)
-ready_withdrawn from least d ready lives =
-    subst (λ t. IsReady from least d.controller.session.state (length (if t then drop 1 d.controller.waiting else d.controller.waiting))) (sym lives) ready
+-- no command of the entry has to wait, or none is taken back by the call
+abbrev pub Stays : ℕ → ℕ → Call → BusState → Type 0
+Stays least own call b = (least ≡ 0) ⊎ (call ≡ Withdraw own → withdrawal_at own b ≡ Ok None)
+
+-- .. nor by any of the calls
+abbrev pub AllStay : ℕ → ℕ → List Call → BusState → Type 0
+AllStay least own calls b = (least ≡ 0) ⊎ TakesNoneBack own calls b
+
+pub stays_now : (least own : ℕ) (call : Call) (calls : List Call) (b : BusState) → AllStay least own (call ∷ calls) b → Stays least own call b
+stays_now least own call calls b (inl none) = inl none
+stays_now least own call calls b (inr all) = inr all.0
+
+pub stay_then : (least own : ℕ) (call : Call) (calls : List Call) (b : BusState) → AllStay least own (call ∷ calls) b → AllStay least own calls (after_call call b)
+stay_then least own call calls b (inl none) = inl none
+stay_then least own call calls b (inr all) = inr all.1
+
+kept_so : (o : Option Command) (ws : List Command) → (if is_some o then None else slice_get ws 0) ≡ None → (if is_some o then ws else drop 1 ws) ≡ ws
+kept_so (Some c) ws none = refl
+kept_so None [] none = refl
+kept_so None (w ∷ ws) none = absurd cc
+
+pub still_waiting : (least own : ℕ) (call : Call) (b : BusState) → Stays least own call b → (at : ℕ) → call ≡ Withdraw at → own ≡ at → (d : Entry) → device_of at b ≡ Some d
+    → least ≤ length d.controller.waiting → least ≤ length (entry_withdraws d).controller.waiting
+still_waiting least own call b (inl none) at is same d there some = omega (arith, none)
+still_waiting least own call b (inr none) at is same d there some =
+    let taken : withdrawal_at own b ≡ Ok None = none (is ∙ sym (ap (λ (n : ℕ). Withdraw n) same)) in
+    let here : withdrawal_at own b ≡ Ok (withdrawn_of d) = ap (λ (o : Option Entry). withdrawal_of o) (ap (λ (n : ℕ). device_of n b) same ∙ there) in
+    let out : withdrawn_of d ≡ None = (let both : Ok (withdrawn_of d) ≡ Ok None = sym here ∙ taken in cc) in
+    subst (λ (w : List Command). least ≤ length w) (sym (kept_so (on_its_way d.controller.session.state) d.controller.waiting out)) some
+
+ready_withdrawn : (from least own : ℕ) (call : Call) (b : BusState) → Stays least own call b → (at : ℕ) → call ≡ Withdraw at → own ≡ at → (d : Entry)
+    → device_of at b ≡ Some d → Ready from least d → Ready from least (entry_withdraws d)
+ready_withdrawn from least own call b stay at is same d there ready = (ready.0, ready.1, still_waiting least own call b stay at is same d there ready.2, ready.3)
 
 -- it stays so until it begins
-module _ (from least own : ℕ) (call : Call) (b : BusState) (well : Well b) (place : AtPlace own (Ready from least) b.devices) (not : Begins call own b → ⊥) where
+module _ (from least own : ℕ) (call : Call) (b : BusState) (well : Well b) (place : AtPlace own (Ready from least) b.devices) (stay : Stays least own call b)
+    (not : Begins call own b → ⊥) where
   abbrev g_then : ℕ
   g_then = (after_call call b).greatest
 
   stays_other : ends_duty call b ≡ false → AtPlace own (Ready from least) (after_call call b).devices
   stays_other other =
-      call_place g_then (Ready from least) (ready_heard from least g_then) own (ready_submitted from least) (ready_withdrawn from least) call b other refl
+      call_place g_then (Ready from least) (ready_heard from least g_then) own (ready_submitted from least) call b (ready_withdrawn from least own call b stay) other refl
       (λ f here. let one = one_device (device_of own b) place.0 f place.1 here in
       subst (λ (k : Entry). is_closed k.controller.session.state ≡ false) one place.2.0)
       place
@@ -179,13 +219,13 @@ tick_of (Tick now) b ends = (now, refl, untold (has_report b) ends)
     untold false h = refl
 tick_of _ b ends = cc
 
-pub stays_ready : (from least own : ℕ) (call : Call) (b : BusState) → Well b → AtPlace own (Ready from least) b.devices → (Begins call own b → ⊥)
-    → AtPlace own (Ready from least) (after_call call b).devices
-stays_ready from least own call b well place not = by_duty (ends_duty call b) refl
+pub stays_ready : (from least own : ℕ) (call : Call) (b : BusState) → Well b → AtPlace own (Ready from least) b.devices → Stays least own call b
+    → (Begins call own b → ⊥) → AtPlace own (Ready from least) (after_call call b).devices
+stays_ready from least own call b well place stay not = by_duty (ends_duty call b) refl
   where
     by_duty : (t : Bool) → ends_duty call b ≡ t → AtPlace own (Ready from least) (after_call call b).devices
-    by_duty false other = stays_other from least own call b well place not other
-    by_duty true ends = let tick = tick_of call b ends in stays_tick from least own call b well place not tick.0 tick.1 tick.2
+    by_duty false other = stays_other from least own call b well place stay not other
+    by_duty true ends = let tick = tick_of call b ends in stays_tick from least own call b well place stay not tick.0 tick.1 tick.2
 
 -- ---- an exchange that ends by a moment ends by a later one
 
@@ -366,12 +406,13 @@ module _ (late : ℕ) (time : ℕ → ℕ) (n own from least : ℕ) where
     stage_decided turns few_then not (inr none) = stage_still none
 
   pub begins_by : (calls : List Call) (b : BusState) → Well b → KeepsTime late calls b → TurnsTake time calls b → HasFew n calls b
-      → AtPlace own (Ready from least) b.devices → Stage calls b → BeginsBy last own calls b
-  begins_by [] b well in_time turns few place stage = tt
-  begins_by (call ∷ calls) b well in_time turns few place stage = (
+      → AllStay least own calls b → AtPlace own (Ready from least) b.devices → Stage calls b → BeginsBy last own calls b
+  begins_by [] b well in_time turns few stay place stage = tt
+  begins_by (call ∷ calls) b well in_time turns few stay place stage = (
     near_turn call calls b well in_time.0 few place stage,
     λ not.
-        begins_by calls (after_call call b) (well_call call b well) in_time.1 turns.1 few.1 (stays_ready from least own call b well place not)
+        begins_by calls (after_call call b) (well_call call b well) in_time.1 turns.1 few.1 (stay_then least own call calls b stay)
+        (stays_ready from least own call b well place (stays_now least own call calls b stay) not)
         (stage_decided call calls b well in_time.0 few place stage turns.0 few.1 not (decide call b)),
   )
 
@@ -408,7 +449,7 @@ module _ (late : ℕ) (time : ℕ → ℕ) (n own from least : ℕ) where
         free = λ free. absurd (nobody b free m out.device out.there out.outstanding);
       }
 
-  pub has_its_turn : (calls : List Call) (b : BusState) → Well b → KeepsTime late calls b → TurnsTake time calls b → HasFew n calls b → b.greatest ≤ from
+  pub has_its_turn : (calls : List Call) (b : BusState) → Well b → KeepsTime late calls b → TurnsTake time calls b → HasFew n calls b → AllStay least own calls b → b.greatest ≤ from
       → AtPlace own (Ready from least) b.devices → ((k : ℕ) → IsOutstandingAt k b → EndsBy (from + time k) calls b) → BeginsBy last own calls b
-  has_its_turn calls b well in_time turns few before place ends =
-      begins_by calls b well in_time turns few place (stage_from calls b well few before place ends (holder b) refl)
+  has_its_turn calls b well in_time turns few stay before place ends =
+      begins_by calls b well in_time turns few stay place (stage_from calls b well few before place ends (holder b) refl)

@@ -1,5 +1,5 @@
 -- Runs of a line that take as long as a law allows, to the millisecond.
-use Rattle.std.specs.Prelude.{◌≡◌, ℕ, ◌+◌, ◌-◌, ◌*◌, List, [], ◌∷◌, Option, Some, None}
+use Rattle.std.specs.Prelude.{◌≡◌, ℕ, ◌+◌, ◌-◌, ◌*◌, false, List, [], ◌∷◌, Option, Some, None}
 use Rattle.std.specs.Option.{option_map_or}
 use Rattle.osdp_frame.specs.declared.check_kind.CheckKind.TheVariants.{Sum}
 use Rattle.osdp_msg.specs.declared.command.Command.{Command}
@@ -27,6 +27,7 @@ short_line = record {
   busy_wait = 2;
   busy_limit = 0;
   quiet_wait = 4;
+  poll_between_orders = false;
   gap = 20;
   room = record { messages = 1; bytes = 1433 };
 }
@@ -91,6 +92,7 @@ asked_of entry b = option_map_or (λ d. asked_in d.controller.session.state) (de
 -- the order of the first goes out exactly when it has to
 pub record OrderIsReached : Type 0 where
   pub config : IsBusConfig short_line
+  pub in_a_row : short_line.poll_between_orders ≡ false
   pub accepted : IsAccepted 0 0 (Id 0) both_open
   pub in_time : KeepsTime 0 order_calls ordered
   pub few : HasFew 2 order_calls ordered

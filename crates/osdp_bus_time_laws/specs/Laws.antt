@@ -1,12 +1,12 @@
 -- How long a line of several entries takes, whatever it does.
-use Rattle.std.specs.Prelude.{◌≡◌, ℕ, zero, suc, ◌+◌, ◌-◌, ◌*◌, ◌≤◌, true, List, [], ◌∷◌, length, Some, None}
+use Rattle.std.specs.Prelude.{◌≡◌, ℕ, zero, suc, ◌+◌, ◌-◌, ◌*◌, ◌≤◌, true, false, List, [], ◌∷◌, length, Some, None, Ok}
 use Rattle.osdp_msg.specs.declared.command.Command.{Command}
 use Rattle.osdp_controller.specs.declared.exchange.Exchange.TheVariants.{Polling}
 use Rattle.osdp_bus.specs.declared.entry.Entry.{Entry}
 use Rattle.osdp_bus.specs.Buses.{BusState, device_of}
-use Rattle.osdp_bus.specs.Machine.{begin_refusal_at, submit_refusal_at}
+use Rattle.osdp_bus.specs.Machine.{begin_refusal_at, submit_refusal_at, withdrawal_at}
 use Rattle.osdp_bus.specs.Settings.{controller_config}
-use Rattle.osdp_bus_laws.specs.Calls.{Call, Begin, Submit, after_call}
+use Rattle.osdp_bus_laws.specs.Calls.{Call, Begin, Submit, Withdraw, after_call}
 use Rattle.osdp_bus_laws.specs.Fairness.{Begins}
 use Rattle.osdp_controller_laws.specs.Commands.{asked_in}
 use Rattle.osdp_controller_laws.specs.Laws.{exchange_in}
@@ -42,10 +42,12 @@ GoesOutBy limit (suc before) entry (call ∷ calls) b = IsUnderWay entry b
     × (Begins call entry b → GoesOutBy limit before entry calls (after_call call b))
     × ((Begins call entry b → ⊥) → GoesOutBy limit (suc before) entry calls (after_call call b))
 
--- an exchange that begins while the session of its entry is under way asks the command that waits at the front, and the others wait on
+-- where orders go out one after the other, an exchange that begins while the session of its entry is under way asks the command that waits at the front, and the
+-- others wait on
 abbrev pub TakesTheFront : BusState → Type 0
 TakesTheFront b = (call : Call) (entry : ℕ) (command : Command) (rest : List Command) (d : Entry) → device_of entry b ≡ Some d
-    → is_under_way d.controller.session.state ≡ true → d.controller.waiting ≡ command ∷ rest → Begins call entry b
+    → is_under_way d.controller.session.state ≡ true → d.controller.session.config.poll_between_orders ≡ false → d.controller.waiting ≡ command ∷ rest
+    → Begins call entry b
     → (e : Entry) × (device_of entry (after_call call b) ≡ Some e) × (asked_in e.controller.session.state ≡ Some command) × (e.controller.waiting ≡ rest)
 
 -- and where none waits it is a POLL
@@ -60,10 +62,16 @@ pub record IsAccepted (entry before : ℕ) (command : Command) (b : BusState) : 
   pub accepted : submit_refusal_at entry command b ≡ None
   pub place : length under_way.device.controller.waiting ≡ before
 
--- an order in time: a turn of each entry for each command before it, and one more
+-- no order of the entry is taken back: an order that waits keeps its place until those before it have gone out
+abbrev pub TakesNoneBack : ℕ → List Call → BusState → Type 0
+TakesNoneBack entry [] b = Unit {0}
+TakesNoneBack entry (call ∷ calls) b = (call ≡ Withdraw entry → withdrawal_at entry b ≡ Ok None) × TakesNoneBack entry calls (after_call call b)
+
+-- an order in time, where orders go out one after the other: a turn of each entry for each command before it, and one more
 abbrev pub OrdersGoOut : BusState → Type 0
 OrdersGoOut b = (late : ℕ) (time : ℕ → ℕ) (n entry before : ℕ) (command : Command) (calls : List Call)
-    → IsAccepted entry before command b → KeepsTurns late time n calls (after_call (Submit entry command) b)
+    → b.config.poll_between_orders ≡ false → IsAccepted entry before command b → KeepsTurns late time n calls (after_call (Submit entry command) b)
+    → TakesNoneBack entry calls (after_call (Submit entry command) b)
     → GoesOutBy (b.greatest + (before + 1) * turns_of time late n) before entry calls (after_call (Submit entry command) b)
 
 -- an entry that is open is asked in time, by a POLL where no order waits: for each of its exchanges the interval between POLLs, and a turn of each entry
@@ -81,8 +89,9 @@ OpeningsBegin b = (late : ℕ) (time : ℕ → ℕ) (n entry now : ℕ) (calls :
 -- ---- whatever the line does: each turn as long as the settings allow
 
 abbrev pub OrdersInTime : BusState → Type 0
-OrdersInTime b = (late n entry before : ℕ) (command : Command) (calls : List Call) → IsAccepted entry before command b
+OrdersInTime b = (late n entry before : ℕ) (command : Command) (calls : List Call) → b.config.poll_between_orders ≡ false → IsAccepted entry before command b
     → KeepsTime late calls (after_call (Submit entry command) b) → HasFew n calls (after_call (Submit entry command) b)
+    → TakesNoneBack entry calls (after_call (Submit entry command) b)
     → GoesOutBy (b.greatest + (before + 1) * (n * (exchange_of b late + late))) before entry calls (after_call (Submit entry command) b)
 
 abbrev pub OpeningsInTime : BusState → Type 0

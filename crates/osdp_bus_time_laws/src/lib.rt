@@ -14,8 +14,8 @@ pub fn exchanges_end()
     ensures { Always ExchangesEnd }
 {}
 
-/// An order goes out within a turn of each entry for each command before it, and one more, or its session has ended by then. It is accepted while its session
-/// is under way, and what goes out is its first frame. A turn is an exchange and a late tick. Whatever the line does, an exchange is the longest that the settings
+/// Where orders go out one after the other, an order goes out within a turn of each entry for each command before it, and one more, or its session has ended by then.
+/// It is accepted while its session is under way, no order of its entry is taken back from then on, and what goes out is its first frame. A turn is an exchange and a late tick. Whatever the line does, an exchange is the longest that the settings
 /// allow. Each exchange that its entry begins asks the command that waits at the front, so the order has its turn after those before it.
 pub fn orders_go_out()
     ensures turns { Always OrdersGoOut }

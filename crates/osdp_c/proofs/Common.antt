@@ -1,6 +1,6 @@
 -- The names that most proofs of this crate cite, passed on from one place. Declares nothing.
 pub use Rattle.std.proofs.Common.{[], ap, arith, Bool, Err, false, inl, inr, List, None, Ok, Option, refl, Result, Some, subst, sym, true, ℕ, ◌∙◌, ◌≡◌, ◌⊎◌}
-pub use Rattle.osdp_c_values.specs.Panels.{added_entry, added_status, AddsTo, IsSentIf, IsSentIn, panel_of, with_panel}
+pub use Rattle.osdp_c_values.specs.Panels.{added_entry, added_status, AddsTo, IsSentIf, IsSentIn}
 pub use Rattle.osdp_c_values.specs.Statuses.{number}
 pub use Rattle.osdp_tool_monitor.specs.Hearing.{Come, LineEvent, RunEnds, TableDue}
 pub use Rattle.osdp_c_values.specs.declared.status.Status.{Status}

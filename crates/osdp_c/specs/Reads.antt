@@ -7,7 +7,3 @@ use Rattle.osdp_c_values.specs.Statuses.{number}
 pub record IsRead {O : Type 0} (read : Read O) (answer : ℕ) (after : O) : Type 0 where
   pub status : answer ≡ number read.status
   pub written : after ≡ read.out
-
--- a call of what is read has one answer, and writes one thing
-abbrev pub FieldsAreReadOnce : Type 0 → Type 0
-FieldsAreReadOnce O = (read : Read O) (first second : ℕ) (a b : O) → IsRead read first a → IsRead read second b → (first ≡ second) × (a ≡ b)

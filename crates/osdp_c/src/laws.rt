@@ -1,7 +1,6 @@
 //! What calls for C come to. The functions have no code: each states a law, and its proof is the law's.
 
 ghost use Rattle.osdp_c.specs.Outcomes.{AnswersTellOfIt, CommandsAreReadOnce, CommandsHaveOneAnswer, DeadlinesAreTold, EventsAreReadOnce, MonitorsAreMadeAlike, NoMonitorHears, OneBurstGoesOut, ReadersAreMadeAlike, ReadersWithRoomAreMadeAlike, RepliesHaveOneAnswer, RepliesTellOneEvent};
-ghost use Rattle.osdp_c.specs.Reads.{FieldsAreReadOnce};
 
 /// The text of a message, its length and the answer are one for each code and data, room and count.
 pub fn texts_have_one_answer()
@@ -14,11 +13,6 @@ pub fn messages_are_read_once()
     ensures commands { CommandsAreReadOnce }
     ensures events { EventsAreReadOnce }
     ensures replies { RepliesTellOneEvent }
-{}
-
-/// A call that reads fields has one answer, and writes one thing.
-pub fn fields_are_read_once<O>()
-    ensures { FieldsAreReadOnce O }
 {}
 
 /// A tick of a panel writes one burst, and the moment that is written tells the panel's deadline. Without a panel what was there stays.

@@ -3,15 +3,12 @@
 ghost use Rattle.std.specs.Prelude.{◌≡◌, IfOk, Option, Some};
 ghost use Rattle.std.specs.Result.{result_map_both};
 ghost use Rattle.osdp_msg.specs.declared.command.Command.{Command as Ordered};
-ghost use Rattle.osdp_bus.specs.Settings.{default_config};
-ghost use Rattle.osdp_frame.specs.declared.check_kind.CheckKind.TheVariants.{Crc};
-ghost use Rattle.osdp_msg.specs.Limits.{room_for};
-ghost use Rattle.osdp_c_values.specs.Settings.{bus_config_of, day, limit_of, polls_between};
+ghost use Rattle.osdp_c_values.specs.Settings.{bus_config_of, day, default_panel, limit_of};
 ghost use Rattle.osdp_c_values.specs.Clocks.{new_clock};
 ghost use Rattle.osdp_c_values.specs.Addresses.{device_address};
 ghost use Rattle.osdp_c_values.specs.Calls.{IsDone, calls, frees, writes};
 ghost use Rattle.osdp_c.specs.CommandTexts.{IsReadCommand};
-ghost use Rattle.osdp_c_values.specs.Panels.{AddsTo, IsBurstIn, IsDueIn, MadeAs, NewPanelEnds, NewPanelIn, NewPanelWith, at_moment, begins, beside, does, falls_silent, hears, looks_at, of_bus, of_panel, on_bus, on_panel, panel_of, reports, retargets, sets_moment, submits_data, submits_text, ticks, withdraws, writes_address, writes_closed, writes_entries, writes_report, writes_waiting, writes_withdrawn};
+ghost use Rattle.osdp_c_values.specs.Panels.{AddsTo, IsBurstIn, IsDueIn, MadeAs, NewPanelEnds, NewPanelIn, NewPanelWith, at_moment, begins, does, falls_silent, hears, looks_at, of_bus, on_bus, reports, retargets, sets_moment, submits_data, submits_text, ticks, withdraws, writes_address, writes_closed, writes_entries, writes_report, writes_waiting, writes_withdrawn};
 
 use crate::held::{freed, on_held, put_new};
 use crate::panel_calls;
@@ -23,15 +20,13 @@ use osdp_c_values::{
 };
 use osdp_frame::Burst;
 use osdp_msg::Spelling;
-use osdp_orders::Orders;
 use std::alloc::Global;
 
-/// Writes the default settings: those of a bus with a CRC, and room for 64 commands.
+/// Writes the default settings: those of a panel with a CRC, and room for 64 commands.
 #[unsafe(no_mangle)]
 pub extern "C" fn osdp_panel_defaults(settings: &mut PanelSettings)
-    ensures bus { bus_config_of settings.new ≡ Some (default_config Crc (room_for 64)) }
+    ensures bus { bus_config_of settings.new ≡ Some default_panel }
     ensures clock { settings.new.clock_limit ≡ day }
-    ensures between { settings.new.poll_between_orders ≡ 0 }
 {
     settings.set_defaults();
 }
@@ -42,7 +37,7 @@ fn new_machine(
     settings: &PanelSettings,
     config: Option<BusConfig>,
 ) -> Result<Box<PanelMachine>, BusFault>
-    ensures panel { MadeAs (polls_between settings.now) config (result_map_both (λ m. panel_of m.value) (λ fault. fault) result) }
+    ensures panel { MadeAs config (result_map_both (λ m. m.value.bus) (λ fault. fault) result) }
     ensures clock { IfOk result (λ m. m.value.clock ≡ new_clock (limit_of settings.now.clock_limit)) }
 {
     let Some(config) = config else {
@@ -50,22 +45,10 @@ fn new_machine(
     };
     let clock = Clock::new(settings.clock_limit());
     let sent = Place::new(Burst::new());
-    let room = config.room;
     match Bus::new(alloc, config) {
-        Ok(bus) => match Orders::new(alloc, settings.polls_between(), room) {
-            Ok(orders) => match Box::new(
-                alloc,
-                PanelMachine {
-                    orders,
-                    bus,
-                    clock,
-                    sent,
-                },
-            ) {
-                Ok(machine) => Ok(machine),
-                Err(_) => Err(BusFault::NoMemory),
-            },
-            Err(fault) => Err(fault),
+        Ok(bus) => match Box::new(alloc, PanelMachine { bus, clock, sent }) {
+            Ok(machine) => Ok(machine),
+            Err(_) => Err(BusFault::NoMemory),
         },
         Err(fault) => Err(fault),
     }
@@ -78,7 +61,7 @@ fn make(
     settings: &PanelSettings,
     config: Option<BusConfig>,
 ) -> u32
-    ensures { NewPanelIn (polls_between settings.now) config (limit_of settings.now.clock_limit) panel.old.slot.machine result panel.new.slot.machine }
+    ensures { NewPanelIn config (limit_of settings.now.clock_limit) panel.old.slot.machine result panel.new.slot.machine }
 {
     put_new!(
         panel,
@@ -169,7 +152,7 @@ pub extern "C" fn osdp_panel_submit_nonnull(
     code: u8,
     body: &[u8],
 ) -> u32
-    ensures { IsDone (calls (on_panel (submits_data entry code body.now)) panel.old.slot.machine) result panel.new.slot.machine }
+    ensures { IsDone (calls (on_bus (submits_data entry code body.now)) panel.old.slot.machine) result panel.new.slot.machine }
 {
     on_held!(
         panel,
@@ -187,7 +170,7 @@ pub extern "C" fn osdp_panel_submit_text_nonnull(
     text: &[u8],
 ) -> u32
     ensures { (read : Option Ordered) × IsReadCommand text.now read
-        × IsDone (calls (on_panel (submits_text entry read)) panel.old.slot.machine) result panel.new.slot.machine }
+        × IsDone (calls (on_bus (submits_text entry read)) panel.old.slot.machine) result panel.new.slot.machine }
 {
     let mut place = Spelling::new();
     let read = read_command(text, &mut place);
@@ -206,8 +189,8 @@ pub extern "C" fn osdp_panel_withdraw(
     entry: EntryNumber,
     command: &mut MessageStruct,
 ) -> u32
-    ensures panel { IsDone (calls (on_panel (withdraws entry)) panel.old.slot.machine) result panel.new.slot.machine }
-    ensures written { command.new ≡ writes (of_panel (writes_withdrawn entry)) panel.old.slot.machine command.old }
+    ensures panel { IsDone (calls (on_bus (withdraws entry)) panel.old.slot.machine) result panel.new.slot.machine }
+    ensures written { command.new ≡ writes (of_bus (writes_withdrawn entry)) panel.old.slot.machine command.old }
 {
     on_held!(
         panel,
@@ -241,7 +224,7 @@ pub extern "C" fn osdp_panel_bytes_nonnull(
     bytes: &[u8],
     now: u64,
 ) -> u32
-    ensures { IsDone (calls (at_moment now (beside (hears bytes.now now))) panel.old.slot.machine) result panel.new.slot.machine }
+    ensures { IsDone (calls (at_moment now (hears bytes.now now)) panel.old.slot.machine) result panel.new.slot.machine }
 {
     on_held!(
         panel,
@@ -253,7 +236,7 @@ pub extern "C" fn osdp_panel_bytes_nonnull(
 /// The line was seen silent.
 #[unsafe(no_mangle)]
 pub extern "C" fn osdp_panel_silence(alloc: Global, panel: &mut PanelHandle, now: u64) -> u32
-    ensures { IsDone (calls (at_moment now (beside (falls_silent now))) panel.old.slot.machine) result panel.new.slot.machine }
+    ensures { IsDone (calls (at_moment now (falls_silent now)) panel.old.slot.machine) result panel.new.slot.machine }
 {
     on_held!(
         panel,
@@ -377,19 +360,9 @@ pub extern "C" fn osdp_panel_waiting(
     count: &mut usize,
 ) -> u32
     ensures panel { IsDone (calls (on_bus (looks_at entry)) panel.old.slot.machine) result panel.new.slot.machine }
-    ensures written { count.new ≡ writes (of_panel (writes_waiting entry)) panel.old.slot.machine count.old }
+    ensures written { count.new ≡ writes (of_bus (writes_waiting entry)) panel.old.slot.machine count.old }
 {
-    on_held!(
-        panel,
-        alloc,
-        |machine| match machine.orders.waiting(&machine.bus, entry) {
-            Some(told) => {
-                *count = told;
-                Status::Done
-            }
-            None => Status::Panel(BusFault::NoEntry),
-        }
-    )
+    on_entry!(panel, alloc, waiting(entry) => |told| count = told)
 }
 
 /// Writes whether the session of a device is closed.

@@ -1,11 +1,11 @@
-//! The calls of a panel, on its bus and its orders.
+//! The calls of a panel, on its bus.
 
 ghost use Rattle.std.specs.Prelude.{◌≡◌};
-ghost use Rattle.osdp_orders.specs.Orders.{AddEnds};
+ghost use Rattle.osdp_bus.specs.Machine.{AddEnds};
 ghost use Rattle.osdp_c_values.specs.Addresses.{device_address};
 ghost use Rattle.osdp_bus.specs.Ticking.{bus_ticks};
 ghost use Rattle.osdp_c_values.specs.Clocks.{accepts};
-ghost use Rattle.osdp_c_values.specs.Panels.{IsSentIf, at_moment, begins, beside, done_status, falls_silent, hears, on_panel, panel_of, retargets, sets_moment, submits, submits_data, submits_text, ticks, with_panel, withdraws, writes_withdrawn};
+ghost use Rattle.osdp_c_values.specs.Panels.{IsSentIf, at_moment, begins, done_status, falls_silent, hears, on_bus, retargets, sets_moment, submits, submits_data, submits_text, ticks, withdraws, writes_withdrawn};
 
 use crate::held::at_moment;
 use osdp_bus::{Bus, BusFault, EntryNumber};
@@ -33,12 +33,10 @@ fn device_address(number: u32) -> Address
 
 /// Adds a device.
 pub(crate) fn add(machine: &mut PanelMachine, address: u32) -> Result<EntryNumber, BusFault>
-    ensures ends { AddEnds (device_address address) (panel_of machine.old) (panel_of machine.new) result }
-    ensures machine { machine.new ≡ with_panel (panel_of machine.new) machine.old }
+    ensures ends { AddEnds (device_address address) machine.old.bus machine.new.bus result }
+    ensures machine { machine.new ≡ record machine.old { bus = machine.new.bus } }
 {
-    machine
-        .orders
-        .add(&mut machine.bus, device_address(address))
+    machine.bus.add(device_address(address))
 }
 
 /// Begins a session.
@@ -46,17 +44,13 @@ pub(crate) fn begin(machine: &mut PanelMachine, entry: EntryNumber, now: u64) ->
     ensures status { result ≡ (at_moment now (begins entry now) machine.old).status }
     ensures machine { machine.new ≡ (at_moment now (begins entry now) machine.old).machine }
 {
-    at_moment!(
-        machine,
-        now,
-        done_status(machine.orders.begin(&mut machine.bus, entry, now))
-    )
+    at_moment!(machine, now, done_status(machine.bus.begin(entry, now)))
 }
 
 /// Bytes have come from the line.
 pub(crate) fn hear(machine: &mut PanelMachine, bytes: &[u8], now: u64) -> Status
-    ensures status { result ≡ (at_moment now (beside (hears bytes.now now)) machine.old).status }
-    ensures machine { machine.new ≡ (at_moment now (beside (hears bytes.now now)) machine.old).machine }
+    ensures status { result ≡ (at_moment now (hears bytes.now now) machine.old).status }
+    ensures machine { machine.new ≡ (at_moment now (hears bytes.now now) machine.old).machine }
 {
     at_moment!(
         machine,
@@ -70,8 +64,8 @@ pub(crate) fn hear(machine: &mut PanelMachine, bytes: &[u8], now: u64) -> Status
 
 /// The line was seen silent.
 pub(crate) fn fall_silent(machine: &mut PanelMachine, now: u64) -> Status
-    ensures status { result ≡ (at_moment now (beside (falls_silent now)) machine.old).status }
-    ensures machine { machine.new ≡ (at_moment now (beside (falls_silent now)) machine.old).machine }
+    ensures status { result ≡ (at_moment now (falls_silent now) machine.old).status }
+    ensures machine { machine.new ≡ (at_moment now (falls_silent now) machine.old).machine }
 {
     at_moment!(
         machine,
@@ -109,10 +103,10 @@ pub(crate) fn set_moment(machine: &mut PanelMachine, now: u64)
 
 /// Puts a command after those that wait for a device.
 fn submit(machine: &mut PanelMachine, entry: EntryNumber, command: &Command<'_>) -> Status
-    ensures status { result ≡ (on_panel (submits entry command.now) machine.old).status }
-    ensures machine { machine.new ≡ (on_panel (submits entry command.now) machine.old).machine }
+    ensures status { result ≡ (on_bus (submits entry command.now) machine.old).status }
+    ensures machine { machine.new ≡ (on_bus (submits entry command.now) machine.old).machine }
 {
-    done_status(machine.orders.submit(&mut machine.bus, entry, command))
+    done_status(machine.bus.submit(entry, command))
 }
 
 /// The same by the command's code and data.
@@ -122,8 +116,8 @@ pub(crate) fn submit_data(
     code: u8,
     body: &[u8],
 ) -> Status
-    ensures status { result ≡ (on_panel (submits_data entry code body.now) machine.old).status }
-    ensures machine { machine.new ≡ (on_panel (submits_data entry code body.now) machine.old).machine }
+    ensures status { result ≡ (on_bus (submits_data entry code body.now) machine.old).status }
+    ensures machine { machine.new ≡ (on_bus (submits_data entry code body.now) machine.old).machine }
 {
     match Command::read(code, body) {
         Ok(command) => submit(machine, entry, &command),
@@ -137,8 +131,8 @@ pub(crate) fn submit_read(
     entry: EntryNumber,
     read: &Option<Command<'_>>,
 ) -> Status
-    ensures status { result ≡ (on_panel (submits_text entry read.now) machine.old).status }
-    ensures machine { machine.new ≡ (on_panel (submits_text entry read.now) machine.old).machine }
+    ensures status { result ≡ (on_bus (submits_text entry read.now) machine.old).status }
+    ensures machine { machine.new ≡ (on_bus (submits_text entry read.now) machine.old).machine }
 {
     match read {
         Some(command) => submit(machine, entry, command),
@@ -152,18 +146,18 @@ pub(crate) fn withdraw(
     entry: EntryNumber,
     out: &mut MessageStruct,
 ) -> Status
-    ensures status { result ≡ (on_panel (withdraws entry) machine.old).status }
-    ensures machine { machine.new ≡ (on_panel (withdraws entry) machine.old).machine }
-    ensures written { out.new ≡ writes_withdrawn entry (panel_of machine.old) out.old }
+    ensures status { result ≡ (on_bus (withdraws entry) machine.old).status }
+    ensures machine { machine.new ≡ (on_bus (withdraws entry) machine.old).machine }
+    ensures written { out.new ≡ writes_withdrawn entry machine.old.bus out.old }
 {
-    let status = match machine.orders.withdrawable(&machine.bus, entry) {
+    let status = match machine.bus.withdrawable(entry) {
         Ok(command) => {
             out.set_command(command.as_ref());
             Status::Done
         }
         Err(fault) => Status::Panel(fault),
     };
-    let _ = machine.orders.withdraw(&mut machine.bus, entry);
+    let _ = machine.bus.withdraw(entry);
     status
 }
 

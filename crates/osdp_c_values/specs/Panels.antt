@@ -13,11 +13,10 @@ use Rattle.osdp_bus.specs.Buses.{BusState, device_of, is_maybe_again, new_bus, s
 use Rattle.osdp_bus.specs.Deadlines.{IsDeadline}
 use Rattle.osdp_bus.specs.Entries.{address_of}
 use Rattle.osdp_bus.specs.Hearing.{after_bytes, after_silence}
-use Rattle.osdp_bus.specs.Machine.{after_next_report, after_retarget_at, begin_refusal_at, changed_unless, retarget_refusal_at}
+use Rattle.osdp_bus.specs.Machine.{AddEnds, NewEnds, after_begin_at, after_next_report, after_retarget_at, after_submit_at, after_withdraw_at, begin_refusal_at, changed_unless, order_refusal_at, retarget_refusal_at, withdrawal_at}
 use Rattle.osdp_bus.specs.Ticking.{bus_ticks}
 use Rattle.osdp_bus.specs.Settings.{IsBusConfig}
 use Rattle.osdp_controller.specs.States.{is_closed}
-use Rattle.osdp_orders.specs.Orders.{AddEnds, PanelState, after_begin, after_submit, after_tick, after_withdraw, both, new_orders, submit_refusal, waiting, withdrawal}
 use Rattle.osdp_c_values.specs.Clocks.{ClockState, accepts, new_clock, sees}
 use Rattle.osdp_c_values.specs.declared.machine.PanelMachine.{PanelMachine}
 use Rattle.osdp_c_values.specs.declared.arrays.BurstStruct.{BurstStruct}
@@ -29,7 +28,7 @@ use Rattle.osdp_c_values.specs.declared.status.Status.{Status}
 use Rattle.osdp_c_values.specs.declared.status.Status.TheVariants as status
 use Rattle.osdp_c_values.specs.Moments.{moment_struct}
 use Rattle.osdp_c_values.specs.Reports.{report_struct}
-use Rattle.osdp_c_values.specs.Settings.{bus_config_of, bus_config_with, limit_of, polls_between}
+use Rattle.osdp_c_values.specs.Settings.{bus_config_of, bus_config_with, limit_of}
 use Rattle.osdp_c_values.specs.Statuses.{number}
 use Rattle.osdp_c_values.specs.Structs.{burst_of, command_struct}
 use Rattle.osdp_c_values.specs.Calls.{Done}
@@ -55,24 +54,6 @@ unless_refused refusal b after = record { status = status_of refusal; machine = 
 abbrev pub on_bus : (BusState → Done BusState) → PanelMachine → Done PanelMachine
 on_bus call m = record { status = (call m.bus).status; machine = record m { bus = (call m.bus).machine } }
 
--- the bus with its orders
-abbrev pub panel_of : PanelMachine → PanelState
-panel_of m = both m.orders m.bus
-
-abbrev pub with_panel : PanelState → PanelMachine → PanelMachine
-with_panel x m = record m { orders = x.orders; bus = x.bus }
-
--- the same of a call on the bus with its orders
-abbrev pub on_panel : (PanelState → Done PanelState) → PanelMachine → Done PanelMachine
-on_panel call m = record { status = (call (panel_of m)).status; machine = with_panel (call (panel_of m)).machine m }
-
-abbrev pub of_panel : {O : Type 0} → (PanelState → O → O) → PanelMachine → O → O
-of_panel write m out = write (panel_of m) out
-
--- a call on the bus alone leaves the orders
-abbrev pub beside : (BusState → Done BusState) → PanelState → Done PanelState
-beside call x = record { status = (call x.bus).status; machine = both x.orders (call x.bus).machine }
-
 -- what such a call writes
 abbrev pub of_bus : {O : Type 0} → (BusState → O → O) → PanelMachine → O → O
 of_bus write m out = write m.bus out
@@ -83,59 +64,48 @@ sees_if_done now status.Done c = sees now c
 sees_if_done now refused c = c
 
 -- a call at a moment; one that lies too far after the greatest one seen is refused
-abbrev pub at_moment : ℕ → (PanelState → Done PanelState) → PanelMachine → Done PanelMachine
+abbrev pub at_moment : ℕ → (BusState → Done BusState) → PanelMachine → Done PanelMachine
 at_moment now call m =
     if accepts now m.clock then record {
-      status = (call (panel_of m)).status;
-      machine = record (with_panel (call (panel_of m)).machine m) { clock = sees_if_done now (call (panel_of m)).status m.clock };
+      status = (call m.bus).status;
+      machine = record m { bus = (call m.bus).machine; clock = sees_if_done now (call m.bus).status m.clock };
     } else record { status = status.MomentTooFar; machine = m }
 
 -- a moment is seen, however far it lies after the greatest one
 abbrev pub sets_moment : ℕ → PanelMachine → Done PanelMachine
 sets_moment now m = record { status = status.Done; machine = record m { bus = seen now m.bus; clock = sees now m.clock } }
 
--- a bus without devices, whose orders wait for POLLs or not
-abbrev pub new_panel : Bool → BusConfig → PanelState
-new_panel between config = both (new_orders between config.room) (new_bus config)
-
--- how a new panel comes about: the settings are judged before memory is asked for
-abbrev pub NewEnds : Bool → BusConfig → Result PanelState BusFault → Type 0
-NewEnds between config (Ok x) = IsBusConfig config × (x ≡ new_panel between config)
-NewEnds between config (Err OutOfRange) = IsBusConfig config → ⊥
-NewEnds between config (Err NoMemory) = IsBusConfig config
-NewEnds between config (Err _) = ⊥
-
 -- how it ends, and what the handle holds then
-abbrev pub made_status : Result PanelState BusFault → Status
-made_status (Ok x) = status.Done
+abbrev pub made_status : Result BusState BusFault → Status
+made_status (Ok b) = status.Done
 made_status (Err fault) = status.Panel fault
 
-abbrev pub made_in : ℕ → Result PanelState BusFault → Option PanelMachine
-made_in limit (Ok x) = Some (record { orders = x.orders; bus = x.bus; clock = new_clock limit; sent = tt })
+abbrev pub made_in : ℕ → Result BusState BusFault → Option PanelMachine
+made_in limit (Ok b) = Some (record { bus = b; clock = new_clock limit; sent = tt })
 made_in limit (Err fault) = None
 
--- a new panel, by settings that may be none
-abbrev pub MadeAs : Bool → Option BusConfig → Result PanelState BusFault → Type 0
-MadeAs between None r = r ≡ Err OutOfRange
-MadeAs between (Some config) r = NewEnds between config r
+-- a new panel, by settings that may be none: those are judged before memory is asked for
+abbrev pub MadeAs : Option BusConfig → Result BusState BusFault → Type 0
+MadeAs None r = r ≡ Err OutOfRange
+MadeAs (Some config) r = NewEnds config r
 
 -- the same in a handle, with the limit of its clock
-abbrev pub MadeBy : Bool → Option BusConfig → ℕ → ℕ → Option PanelMachine → Type 0
-MadeBy between config limit answer after =
-    (r : Result PanelState BusFault) × MadeAs between config r × (answer ≡ number (made_status r)) × (after ≡ made_in limit r)
+abbrev pub MadeBy : Option BusConfig → ℕ → ℕ → Option PanelMachine → Type 0
+MadeBy config limit answer after =
+    (r : Result BusState BusFault) × MadeAs config r × (answer ≡ number (made_status r)) × (after ≡ made_in limit r)
 
 -- a handle in use keeps what it holds
-abbrev pub NewPanelIn : Bool → Option BusConfig → ℕ → Option PanelMachine → ℕ → Option PanelMachine → Type 0
-NewPanelIn between config limit (Some m) answer after = (answer ≡ number status.InUse) × (after ≡ Some m)
-NewPanelIn between config limit None answer after = MadeBy between config limit answer after
+abbrev pub NewPanelIn : Option BusConfig → ℕ → Option PanelMachine → ℕ → Option PanelMachine → Type 0
+NewPanelIn config limit (Some m) answer after = (answer ≡ number status.InUse) × (after ≡ Some m)
+NewPanelIn config limit None answer after = MadeBy config limit answer after
 
 -- a panel with room for each of its commands, however long it is
 abbrev pub NewPanelEnds : PanelSettings → Option PanelMachine → ℕ → Option PanelMachine → Type 0
-NewPanelEnds settings before answer after = NewPanelIn (polls_between settings) (bus_config_of settings) (limit_of settings.clock_limit) before answer after
+NewPanelEnds settings before answer after = NewPanelIn (bus_config_of settings) (limit_of settings.clock_limit) before answer after
 
 -- .. and one with room for so many bytes of those that wait for a device together
 abbrev pub NewPanelWith : ℕ → PanelSettings → Option PanelMachine → ℕ → Option PanelMachine → Type 0
-NewPanelWith bytes settings before answer after = NewPanelIn (polls_between settings) (bus_config_with bytes settings) (limit_of settings.clock_limit) before answer after
+NewPanelWith bytes settings before answer after = NewPanelIn (bus_config_with bytes settings) (limit_of settings.clock_limit) before answer after
 
 abbrev pub added_status : Result ℕ BusFault → Status
 added_status (Ok entry) = status.Done
@@ -149,28 +119,25 @@ added_entry (Err fault) out = out
 abbrev pub AddsTo : ℕ → Option PanelMachine → ℕ → Option PanelMachine → ℕ → ℕ → Type 0
 AddsTo address None answer after out out' = (answer ≡ number status.NoMachine) × (after ≡ None) × (out' ≡ out)
 AddsTo address (Some m) answer after out out' =
-    (r : Result ℕ BusFault) × (x' : PanelState) × AddEnds address (panel_of m) x' r
-    × (answer ≡ number (added_status r)) × (after ≡ Some (with_panel x' m)) × (out' ≡ added_entry r out)
+    (r : Result ℕ BusFault) × (b' : BusState) × AddEnds address m.bus b' r
+    × (answer ≡ number (added_status r)) × (after ≡ Some (record m { bus = b' })) × (out' ≡ added_entry r out)
 
-abbrev pub begins : ℕ → ℕ → PanelState → Done PanelState
-begins entry now x = record { status = status_of (begin_refusal_at entry x.bus); machine = after_begin entry now x }
+abbrev pub begins : ℕ → ℕ → BusState → Done BusState
+begins entry now b = unless_refused (begin_refusal_at entry b) b (after_begin_at entry now b)
 
-abbrev pub submits : ℕ → Command → PanelState → Done PanelState
-submits entry command x = record {
-  status = status_of (submit_refusal entry command x);
-  machine = changed_unless (submit_refusal entry command x) x (after_submit entry command x);
-}
+abbrev pub submits : ℕ → Command → BusState → Done BusState
+submits entry command b = unless_refused (order_refusal_at entry command b) b (after_submit_at entry command b)
 
 -- a command by its code and data, which may be none
-abbrev pub submits_read : ℕ → Result Command MsgFault → PanelState → Done PanelState
+abbrev pub submits_read : ℕ → Result Command MsgFault → BusState → Done BusState
 submits_read entry (Ok command) x = submits entry command x
 submits_read entry (Err fault) x = record { status = status.Message fault; machine = x }
 
-abbrev pub submits_data : ℕ → ℕ → List ℕ → PanelState → Done PanelState
+abbrev pub submits_data : ℕ → ℕ → List ℕ → BusState → Done BusState
 submits_data entry code body x = submits_read entry (command_of code body) x
 
 -- a command by its text, which may be that of none
-abbrev pub submits_text : ℕ → Option Command → PanelState → Done PanelState
+abbrev pub submits_text : ℕ → Option Command → BusState → Done BusState
 submits_text entry None x = record { status = status.BadText; machine = x }
 submits_text entry (Some command) x = submits entry command x
 
@@ -183,11 +150,11 @@ abbrev pub withdrawn_struct : Result (Option Command) BusFault → MessageStruct
 withdrawn_struct (Ok command) out = command_struct command out
 withdrawn_struct (Err fault) out = out
 
-abbrev pub withdraws : ℕ → PanelState → Done PanelState
-withdraws entry x = record { status = withdrawn_status (withdrawal entry x); machine = after_withdraw entry x }
+abbrev pub withdraws : ℕ → BusState → Done BusState
+withdraws entry x = record { status = withdrawn_status (withdrawal_at entry x); machine = after_withdraw_at entry x }
 
-abbrev pub writes_withdrawn : ℕ → PanelState → MessageStruct → MessageStruct
-writes_withdrawn entry x out = withdrawn_struct (withdrawal entry x) out
+abbrev pub writes_withdrawn : ℕ → BusState → MessageStruct → MessageStruct
+writes_withdrawn entry x out = withdrawn_struct (withdrawal_at entry x) out
 
 abbrev pub retargets : ℕ → ℕ → BusState → Done BusState
 retargets entry address b = unless_refused (retarget_refusal_at entry address b) b (after_retarget_at entry address b)
@@ -198,12 +165,12 @@ hears bytes now b = does (after_bytes bytes now b)
 abbrev pub falls_silent : ℕ → BusState → Done BusState
 falls_silent now b = does (after_silence now b)
 
-abbrev pub ticks : ℕ → PanelState → Done PanelState
-ticks now x = record { status = status.Done; machine = after_tick now x }
+abbrev pub ticks : ℕ → BusState → Done BusState
+ticks now x = record { status = status.Done; machine = (bus_ticks now x).bus }
 
 -- the panel has ticked
 abbrev pub ticked : ℕ → PanelMachine → PanelMachine
-ticked now m = with_panel (after_tick now (panel_of m)) m
+ticked now m = record m { bus = (bus_ticks now m.bus).bus }
 
 abbrev pub reports : BusState → Done BusState
 reports b = does (after_next_report b)
@@ -253,9 +220,9 @@ closed_number closed = if closed then 1 else 0
 abbrev pub writes_address : ℕ → BusState → ℕ → ℕ
 writes_address entry b out = told_or (option_map address_of (device_of entry b)) out
 
--- .. those that are held back too
-abbrev pub writes_waiting : ℕ → PanelState → ℕ → ℕ
-writes_waiting entry x out = told_or (waiting entry x) out
+-- .. how many commands wait for it
+abbrev pub writes_waiting : ℕ → BusState → ℕ → ℕ
+writes_waiting entry b out = told_or (option_map (λ d. length d.controller.waiting) (device_of entry b)) out
 
 abbrev pub writes_closed : ℕ → BusState → ℕ → ℕ
 writes_closed entry b out = told_or (option_map (λ d. closed_number (is_closed d.controller.session.state)) (device_of entry b)) out

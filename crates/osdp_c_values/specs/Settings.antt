@@ -1,5 +1,6 @@
 -- The settings of machines as structs of plain fields.
-use Rattle.std.specs.Prelude.{ℕ, Bool, not, ◌==◌, ◌&&◌, nat_le, if◌then◌else◌, Option, None, Some}
+use Rattle.std.specs.Prelude.{ℕ, Bool, true, ◌==◌, ◌&&◌, nat_le, if◌then◌else◌, Option, None, Some}
+use Rattle.osdp_bus.specs.Settings.{default_config}
 use Rattle.osdp_bus.specs.declared.config.BusConfig.{BusConfig}
 use Rattle.osdp_frame.specs.declared.check_kind.CheckKind.{CheckKind}
 use Rattle.osdp_frame.specs.declared.check_kind.CheckKind.TheVariants.{Sum, Crc}
@@ -17,10 +18,11 @@ check_of number = if number == 0 then Sum else Crc
 abbrev pub default_room : ℕ → Option Room
 default_room count = if nat_le count most_waiting then Some (room_for count) else None
 
--- the bus's settings that a struct stands for, with such room: there are two checks, the sends and the BUSYs are bytes, and POLLs stand between orders or not
+-- the bus's settings that a struct stands for, with such room: there are two checks, the sends and the BUSYs are bytes, and a POLL stands between any two orders
+-- of a device
 abbrev pub bus_config_in : Room → PanelSettings → Option BusConfig
 bus_config_in room s =
-    if nat_le s.check 1 && (nat_le s.sends 255 && (nat_le s.busy_limit 255 && nat_le s.poll_between_orders 1)) then Some (record {
+    if nat_le s.check 1 && (nat_le s.sends 255 && nat_le s.busy_limit 255) then Some (record {
       check = check_of s.check;
       reply_wait = s.reply_wait;
       poll_interval = s.poll_interval;
@@ -28,6 +30,7 @@ bus_config_in room s =
       busy_wait = s.busy_wait;
       busy_limit = s.busy_limit;
       quiet_wait = s.quiet_wait;
+      poll_between_orders = true;
       gap = s.gap;
       room = room;
     }) else None
@@ -44,6 +47,10 @@ bus_config_of s = bus_config_if (default_room s.capacity) s
 abbrev pub bus_config_with : ℕ → PanelSettings → Option BusConfig
 bus_config_with bytes s = bus_config_in (record { messages = s.capacity; bytes = bytes }) s
 
+-- the settings of a panel that nobody has changed: a CRC, room for 64 commands of each device, and a POLL between any two of its orders
+abbrev pub default_panel : BusConfig
+default_panel = record (default_config Crc (room_for 64)) { poll_between_orders = true }
+
 -- what a device is, by its serial number and what it is otherwise
 abbrev pub pd_id : ℕ → ProductStruct → PdId
 pd_id serial p = record { vendor = p.vendor; model = p.model; version = p.version; serial = serial; firmware_major = p.firmware_major; firmware_minor = p.firmware_minor; firmware_build = p.firmware_build }
@@ -55,10 +62,6 @@ id_of s = pd_id s.serial s.product
 -- a day, in milliseconds
 abbrev pub day : ℕ
 day = 86400000
-
--- whether a device is asked for its events between two of its orders
-abbrev pub polls_between : PanelSettings → Bool
-polls_between s = not (s.poll_between_orders == 0)
 
 -- how far a moment may lie after the greatest one seen, by a setting
 abbrev pub limit_of : ℕ → ℕ

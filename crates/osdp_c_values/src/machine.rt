@@ -15,14 +15,11 @@ use crate::place::Place;
 use osdp_bus::Bus;
 use osdp_device::{Device, ProgramAnswers, Settled};
 use osdp_frame::Burst;
-use osdp_orders::Orders;
 use std::marker::Model;
 
-/// A bus with its orders, and the moments that it has seen.
+/// A bus, and the moments that it has seen.
 #[derive(Drop)]
 pub struct PanelMachine {
-    /// The orders that wait for POLLs, where they do.
-    pub orders: Orders,
     /// The bus.
     pub bus: Bus,
     /// The moments that it has seen.
@@ -37,7 +34,7 @@ impl PanelMachine {
         ensures panel { self.new ≡ ticked now self.old }
         ensures written { IsSentIn (bus_ticks now self.old.bus).sent burst.old burst.new }
     {
-        if self.orders.tick(&mut self.bus, now, &mut self.sent.value) {
+        if self.bus.tick(now, &mut self.sent.value) {
             burst.set(self.sent.value.as_slice());
         } else {
             burst.set(&[]);

@@ -1,10 +1,7 @@
 //! The settings of machines as structs of plain fields.
 
 ghost use Rattle.std.specs.Prelude.{◌≡◌, Some};
-ghost use Rattle.osdp_bus.specs.Settings.{default_config};
-ghost use Rattle.osdp_frame.specs.declared.check_kind.CheckKind.TheVariants.{Crc};
-ghost use Rattle.osdp_msg.specs.Limits.{room_for};
-ghost use Rattle.osdp_c_values.specs.Settings.{bus_config_in, bus_config_of, bus_config_with, check_of, day, default_room, id_of, limit_of, polls_between};
+ghost use Rattle.osdp_c_values.specs.Settings.{bus_config_in, bus_config_of, bus_config_with, check_of, day, default_panel, default_room, id_of, limit_of};
 
 use osdp_bus::BusConfig;
 use osdp_frame::CheckKind;
@@ -34,8 +31,6 @@ pub struct PanelSettings {
     pub capacity: u32,
     /// How far a moment may lie after the greatest one seen; 0 stands for a day.
     pub clock_limit: u32,
-    /// 1: between two orders of a device it is asked for its events by a POLL. 0: orders go out one after the other.
-    pub poll_between_orders: u32,
 }
 
 /// A day, in milliseconds.
@@ -71,11 +66,10 @@ pub fn default_room(capacity: u32) -> Option<Room>
 }
 
 impl PanelSettings {
-    /// Writes the default settings of a bus: a CRC, and room for 64 commands.
+    /// Writes the default settings of a panel: a CRC, and room for 64 commands.
     pub fn set_defaults(&mut self)
-        ensures bus { bus_config_of self.new ≡ Some (default_config Crc (room_for 64)) }
+        ensures bus { bus_config_of self.new ≡ Some default_panel }
         ensures clock { self.new.clock_limit ≡ day }
-        ensures between { self.new.poll_between_orders ≡ 0 }
     {
         self.check = 1;
         self.reply_wait = 200;
@@ -87,7 +81,6 @@ impl PanelSettings {
         self.gap = 20;
         self.capacity = 64;
         self.clock_limit = DAY;
-        self.poll_between_orders = 0;
     }
 
     /// How far a moment may lie after the greatest one seen.
@@ -97,15 +90,8 @@ impl PanelSettings {
         limit_of(self.clock_limit)
     }
 
-    /// Whether a device is asked for its events between two of its orders.
-    pub fn polls_between(&self) -> bool
-        ensures { result ≡ polls_between self.now }
-    {
-        self.poll_between_orders != 0
-    }
-
-    /// The settings of a bus that they stand for, with room for each command, however long it is. None where the check, the sends, the BUSYs, the
-    /// commands that may wait or the POLLs between orders have no such number.
+    /// The settings of a bus that they stand for, with room for each command, however long it is; a POLL stands between any two orders of a device.
+    /// None where the check, the sends, the BUSYs or the commands that may wait have no such number.
     pub fn to_config(&self) -> Option<BusConfig>
         ensures { result ≡ bus_config_of self.now }
     {
@@ -126,11 +112,7 @@ impl PanelSettings {
     fn config_in(&self, room: Room) -> Option<BusConfig>
         ensures { result ≡ bus_config_in room self.now }
     {
-        if self.check > 1
-            || self.sends > 255
-            || self.busy_limit > 255
-            || self.poll_between_orders > 1
-        {
+        if self.check > 1 || self.sends > 255 || self.busy_limit > 255 {
             return None;
         }
         Some(BusConfig {
@@ -141,6 +123,7 @@ impl PanelSettings {
             busy_wait: self.busy_wait,
             busy_limit: self.busy_limit as u8,
             quiet_wait: self.quiet_wait,
+            poll_between_orders: true,
             gap: self.gap,
             room,
         })

@@ -50,6 +50,7 @@ pub use Rattle.osdp_shared_line.specs.Views.{EachMoveIsItsOwn, HeardByOwn, IsQui
 pub use Rattle.osdp_shared_line.proofs.Hearing.{closed_hears}
 pub use Rattle.osdp_calls.specs.Handing.{HandsOver, heard, hears_all, told_by_all}
 pub use Rattle.osdp_controller.specs.Answers.{meaning_of, meaning_of as said_by}
+pub use Rattle.osdp_controller.proofs.Idling.{idle_way}
 pub use Rattle.osdp_controller.specs.Ticking.{Ticked, ticks, ticks_in}
 pub use Rattle.osdp_shared_line.specs.Runs.{moves_at, moves_of}
 pub use Rattle.osdp_msg.specs.ReplyTable.{ReplyFits}
@@ -59,7 +60,7 @@ pub use Rattle.osdp_device.specs.Telling.{items_of, next_told, Told, told_by, to
 pub use Rattle.osdp_reader.specs.Queue.{event_for, lacks_room, offering, released, unoffered}
 pub use Rattle.osdp_device.specs.Deciding.{passed, pending_of, settles, turned_by}
 pub use Rattle.osdp_calls.specs.Ends.{BusIsReached, CanStand, device_after_all, GoByTheirOwn, is_called, is_of_device, IsThatOfABus, KeepsPanel, one_panel_call, OneExchange, panel_calls}
-pub use Rattle.osdp_calls.specs.Turning.{asks, IsTurned, panel_turn_calls, PanelTurnsByCalls, settle_calls, settles_by, TurnsByCalls}
+pub use Rattle.osdp_calls.specs.Turning.{asks, IsTurned, settle_calls, settles_by, TurnsByCalls}
 pub use Rattle.osdp_frame.specs.Items.{items, left_over, whole_packets}
 pub use Rattle.osdp_bus_laws.specs.Turns.{judged}
 pub use Rattle.osdp_bus.specs.Machine.{add_refusal, after_add, after_begin_at, after_submit_at, begin_refusal_at, begin_refusal_of, bus_fault, changed_unless, changes_entry, entry_begins, entry_retargets, entry_submits, entry_withdraws, new_device, retarget_refusal_at, submit_refusal_at, withdrawal_at}

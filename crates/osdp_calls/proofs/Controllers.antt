@@ -1,7 +1,8 @@
 -- A controller of the bus and that of its site, from call to call.
 use Rattle.osdp_calls.proofs.Common.{◌≡◌, ◌≤◌, ℕ, ◌+◌, max, Bool, true, false, cond, Option, Some, None, refl, sym, ap, ◌∙◌, arith, ◌&&◌, ◌^◌, ◌-◌, min, Packet, Command, meaning_of, Heard, hears, hears_in, ignores, is_from_reader, Machine, after_begin, after_retarget, after_submit, refused_unless_closed, Ticked, ticks, ticks_in, Session, State, Closed, Quiet}
+use Rattle.osdp_controller.specs.Machine.{after_withdraw, kept_in, withdrawn_in}
 use Rattle.osdp_controller.specs.Sessions.{seen}
-use Rattle.osdp_calls.proofs.Same.{Controls, IsSame, IsToOpen, at_moment}
+use Rattle.osdp_calls.proofs.Same.{Controls, IsSame, IsToOpen, at_moment, closed_at}
 
 -- ---- moments
 
@@ -106,9 +107,20 @@ submitted_same None top command m c is = record { moment = is.moment; same = ap 
 submitted_same (Some began) top command m c is =
     record { moment = is.moment; same = ap (after_submit command) is.same; quiet = is.quiet; later = is.later }
 
-pub withdrawn_same : (top : ℕ) (m c : Machine) → IsSame top m c
-    → IsSame top (Rattle.osdp_controller.specs.Machine.after_withdraw m) (Rattle.osdp_controller.specs.Machine.after_withdraw c)
-withdrawn_same top m c is = record { moment = is.moment; same = ap Rattle.osdp_controller.specs.Machine.after_withdraw is.same; later = is.later }
+-- the same one is taken back, also where a session is to begin: no command is on its way then
+pub taken_back_same : (o : Option ℕ) (top : ℕ) (m c : Machine) → Controls o top m c → withdrawn_in c.session.state c.waiting ≡ withdrawn_in m.session.state m.waiting
+taken_back_same None top m c is = ap (λ (x : Machine). withdrawn_in x.session.state x.waiting) is.same
+taken_back_same (Some began) top m c is =
+    ap (λ (x : Machine). withdrawn_in x.session.state x.waiting) is.same ∙ sym (ap (λ (st : State). withdrawn_in st m.waiting) is.quiet)
+
+pub withdrawn_same : (o : Option ℕ) (top : ℕ) (m c : Machine) → Controls o top m c → Controls o top (after_withdraw m) (after_withdraw c)
+withdrawn_same None top m c is = record { moment = is.moment; same = ap after_withdraw is.same; later = is.later }
+withdrawn_same (Some began) top m c is = record {
+  moment = is.moment;
+  same = ap after_withdraw is.same ∙ sym (ap (λ (st : State). record (closed_at is.moment m) { waiting = kept_in st m.waiting }) is.quiet);
+  quiet = is.quiet;
+  later = is.later;
+}
 
 pub retargeted_same : (top address : ℕ) (m c : Machine) → IsSame top m c → IsSame top (after_retarget address m) (after_retarget address c)
 retargeted_same top address m c is = record { moment = is.moment; same = ap (after_retarget address) is.same; later = is.later }

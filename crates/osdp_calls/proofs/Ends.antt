@@ -1,5 +1,5 @@
 -- A call of one end leaves the others as they are.
-use Rattle.osdp_calls.proofs.Common.{◌≡◌, ℕ, zero, suc, cond, List, [], ◌∷◌, ◌++◌, map, Option, Some, None, refl, sym, subst, ap, ◌∙◌, ◌==◌, Command, Packet, BusState, new_bus, bus_ticks, Entry, each_of, Each, Answer, site_at, some_same, Call, NewPanel, Next, OfPanel, Step, after_call, after_calls, after_next, all_forget, asked_at, begins_with, begun_of, change_at, changes_at, forgets, last_of, nexts, noted, panel_says, said_at, BusIsReached, CanStand, GoByTheirOwn, IsThatOfABus, OneExchange, Held, KeepsPanel, device_after, device_after_all, held_by, is_of_device, one_panel_call, panel_calls, InUse, Station, PanelTurnsByCalls, panel_turn_calls, device_called, does, on_called, is_called}
+use Rattle.osdp_calls.proofs.Common.{◌≡◌, ℕ, zero, suc, cond, List, [], ◌∷◌, ◌++◌, map, Option, Some, None, refl, sym, subst, ap, ◌∙◌, ◌==◌, Command, Packet, BusState, new_bus, bus_ticks, Entry, each_of, Each, Answer, site_at, some_same, Call, NewPanel, Next, OfPanel, Step, after_call, after_calls, after_next, all_forget, asked_at, begins_with, begun_of, change_at, changes_at, forgets, last_of, nexts, noted, panel_says, said_at, BusIsReached, CanStand, GoByTheirOwn, IsThatOfABus, OneExchange, Held, KeepsPanel, device_after, device_after_all, held_by, is_of_device, one_panel_call, panel_calls, InUse, Station, device_called, does, on_called, is_called}
 use Rattle.osdp_bus_laws.specs.Calls as bus
 use Rattle.osdp_bus_laws.specs.Exchanges.{HasOneExchange}
 use Rattle.osdp_calls.proofs.Places.{Stays, panel_so, station_so}
@@ -145,9 +145,3 @@ module _ {H : Type 0} where
     one_exchange always config addresses l steps settings none is can =
         let r = bus_is_reached config addresses l steps settings none is can in
         subst HasOneExchange (sym r.is) (always r.config r.calls r.settings)
-
-    -- ---- a turn of a panel's loop
-
-    pub panel_turns : (l : InUse H) → PanelTurnsByCalls answer_of after l
-    panel_turns l bytes now read more =
-        all_bus (panel_turn_calls bytes now read more) l (tt, (tt, (tt, (tt, tt))))

@@ -1,5 +1,5 @@
 -- What a controller tells of events, session by session: as it hears a packet, and as it ticks.
-use Rattle.osdp_calls.proofs.Common.{◌≡◌, ◌≤◌, ℕ, ◌+◌, ◌==◌, leb, ltb, Bool, true, false, cond, List, [], ◌∷◌, ◌++◌, Option, Some, None, refl, sym, subst, ap, ◌∙◌, arith, append-nil, append_assoc, is_true, is_false, bytes_eq, Packet, next_sequence, Command, Communication, Event, Reply, said_by, Heard, answered, answered_unread, com_of, command_answered, comset_of, hears, hears_busy, hears_in, ignores, is_ack, is_from_reader, is_numbered, loses, moved_by, opening_answered, pausing_hears, pd_id_of, poll_told, rests, waiting_hears, Report, Session, State, Closed, Quiet, Idle, Waiting, Pausing, Remembered, event_bytes, may_be_again, remembers, both, events_of, is_told_again, marked}
+use Rattle.osdp_calls.proofs.Common.{◌≡◌, ◌≤◌, ℕ, ◌+◌, ◌==◌, leb, ltb, Bool, true, false, cond, List, [], ◌∷◌, ◌++◌, Option, Some, None, refl, sym, subst, ap, ◌∙◌, arith, append-nil, append_assoc, is_true, is_false, bytes_eq, Packet, next_sequence, Command, Communication, Event, Reply, said_by, Heard, answered, answered_unread, com_of, command_answered, comset_of, hears, hears_busy, hears_in, ignores, is_ack, is_from_reader, is_numbered, loses, moved_by, opening_answered, pausing_hears, pd_id_of, poll_told, rests, waiting_hears, Report, idle_way, Session, State, Closed, Quiet, Idle, Waiting, Pausing, Remembered, event_bytes, may_be_again, remembers, both, events_of, is_told_again, marked}
 use Rattle.std.specs.Prelude.{◌&&◌, not}
 use Rattle.osdp_msg.specs.Events.{event_in}
 use Rattle.osdp_msg.specs.declared.reply_fields.PdId.{PdId}
@@ -225,7 +225,7 @@ module _ (session : ℕ) (begun : Option ℕ) (all : List (ℕ × Event)) (x : T
   opens_so : (s : Session) (w : List Command) → Knows session all x → (moment : ℕ) → begun ≡ Some moment → AfterTick (begins Opening 0 s w)
   opens_so s w known moment is =
       let now = earlier_now session known.last known.up_to in
-      subst (λ o. Agrees (session_after (Some (frame_of Opening (record s { number = 0 }))) o session) (begins Opening 0 s w).session.state None all x) (sym is)
+      subst (λ o. Agrees (session_after (Some (frame_of Opening (record s { number = 0; asked = false }))) o session) (begins Opening 0 s w).session.state None all x) (sym is)
       (record { last = known.last; marks = known.marks; bytes = known.bytes; up_to = now.1 }, (refl, now.0))
 
   none_of : (y : Exchange) → (known : Knows session all x) → ByExchange y begun session known.last x.memory.in_session → begun ≡ None
@@ -245,12 +245,11 @@ module _ (session : ℕ) (begun : Option ℕ) (all : List (ℕ × Event)) (x : T
   tick_in (Quiet until) s w h is =
       both AfterTick (leb until s.greatest) (begins Opening 0 s w) (stays s w) (opens_so s w h.0 h.1.0 h.1.1)
       (subst (λ st. Agrees session st begun all x) (sym is) h)
-  tick_in (Idle due) s (c ∷ w) h is =
-      sends_so 1 (record { exchange = Asking c; busies = 0; sent = 0 }) (record s { number = next_sequence s.number }) w h
-  tick_in (Idle due) s [] h is =
-      both AfterTick (leb due s.greatest) (begins Polling (next_sequence s.number) s []) (stays s [])
-      (sends_so 1 (record { exchange = Polling; busies = 0; sent = 0 }) (record s { number = next_sequence s.number }) [] h)
-      (subst (λ st. Agrees session st begun all x) (sym is) h)
+  tick_in (Idle due) s w h is =
+      idle_way AfterTick due s w
+      (λ e. sends_so 1 (record { exchange = Polling; busies = 0; sent = 0 }) (record s { number = next_sequence s.number; asked = false }) w h)
+      (λ e. subst (λ st. Agrees session st begun all x) (sym is) h)
+      (λ c rest e. sends_so 1 (record { exchange = Asking c; busies = 0; sent = 0 }) (record s { number = next_sequence s.number; asked = true }) rest h)
   tick_in (Waiting until k o) s w h is =
       both AfterTick (leb until s.greatest) (tries_again k o s w) (stays s w)
       (both AfterTick (ltb k s.config.sends) (sends_frame (k + 1) o s w) (gives_up o s w) (sends_so (k + 1) o s w h) (h.0, tt))

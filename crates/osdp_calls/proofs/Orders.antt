@@ -12,7 +12,7 @@ use Rattle.osdp_bus_laws.specs.Calls as panel
 use Rattle.osdp_link_laws.specs.Link as link
 use Rattle.osdp_shared_line.specs.Addresses as addresses
 use Rattle.osdp_shared_line.specs.Line as line
-use Rattle.osdp_calls.proofs.Controllers.{closed_of, config_same, is_to_open, retargeted_same, submitted_same, waiting_same, withdrawn_same}
+use Rattle.osdp_calls.proofs.Controllers.{closed_of, config_same, is_to_open, retargeted_same, submitted_same, taken_back_same, waiting_same, withdrawn_same}
 use Rattle.osdp_calls.proofs.Matching.{And, Done, FoundAt, Match, Nobody, Somebody, changed_same, found, set, set_other, set_same}
 use Rattle.osdp_calls.proofs.Panel.{at_seen}
 use Rattle.osdp_calls.proofs.Same.{Controls, IsNetOf, IsSame, IsToOpen, controlled_so, sites_so}
@@ -236,47 +236,32 @@ module _ {H : Type 0} where
     pub withdrawing : (k : ℕ) (l : InUse H) (n : Net H) → IsNetOf l n → StepsTo answer_of after (OfPanel (panel.Withdraw k)) l n (record l { bus = bus.after_withdraw_at k l.bus })
     withdrawing k l n h = by_found (found (Sites l) k l.bus.devices.entries l.stations n.sites h.sites)
       where
-        by_begun : (d : Entry) (t : Station H) (s : Site H) → slice_get l.bus.devices.entries k ≡ Some d → site_at k l.stations ≡ Some t
-            → site_at k n.sites ≡ Some s → Sites l k d t s → (o : Option ℕ) → t.begun ≡ o → StepsTo answer_of after (OfPanel (panel.Withdraw k)) l n (record l {
+        by_site : (d : Entry) (t : Station H) (s : Site H) → slice_get l.bus.devices.entries k ≡ Some d → site_at k l.stations ≡ Some t
+            → site_at k n.sites ≡ Some s → Sites l k d t s → StepsTo answer_of after (OfPanel (panel.Withdraw k)) l n (record l {
               bus = record l.bus { devices = record l.bus.devices { entries = slice_set l.bus.devices.entries k (bus.entry_withdraws d) } };
             })
-        by_begun d t s a b c has None begun =
-            let control : IsSame l.bus.greatest d.controller s.controller = subst (λ o. Controls o l.bus.greatest d.controller s.controller) begun has.controller in
+        by_site d t s a b c has =
             let e : Entry = bus.entry_withdraws d in
             let same : controllers.withdrawn_in s.controller.session.state s.controller.waiting ≡ bus.withdrawn_of d =
-            ap (λ (x : Machine). controllers.withdrawn_in x.session.state x.waiting) control.same in
+            taken_back_same t.begun l.bus.greatest d.controller s.controller has.controller in
             let next : InUse H = record l { bus = record l.bus { devices = record l.bus.devices { entries = slice_set l.bus.devices.entries k e } } } in
             let s1 : Site H = line.withdraws answer_of after s in
-            by_own answer_of after (OfPanel (panel.Withdraw k)) (Withdraw k) l n next refl (inr (refl, ap begun_of b ∙ begun)) tt
+            by_own answer_of after (OfPanel (panel.Withdraw k)) (Withdraw k) l n next refl refl tt
             (subst (IsNetOf next) (sym (ap (λ o. line.change_at k o (line.withdraws answer_of after) n) c)) (sites_so h
             (subst (λ ts. Match (Sites next) 0 (slice_set l.bus.devices.entries k e) ts (changed k s1 n.sites)) (changed_same k t l.stations b)
             (set (Sites l) k e t s1 l.bus.devices.entries l.stations n.sites h.sites (controlled_so has
-            (subst (λ o. Controls o l.bus.greatest e.controller s1.controller) (sym begun)
-            (withdrawn_same l.bus.greatest d.controller s.controller control))
+            (withdrawn_same t.begun l.bus.greatest d.controller s.controller has.controller)
             ((λ i. line.freed_without (same i) (has.reserved i)) ∙ frees_same (bus.withdrawn_of d) d.reserved))))))
-        by_begun d t s a b c has (Some began) begun =
-            let control : IsToOpen began l.bus.greatest d.controller s.controller = subst (λ o. Controls o l.bus.greatest d.controller s.controller) begun has.controller in
-            let nothing : bus.withdrawn_of d ≡ None = ap (λ st. controllers.withdrawn_in st d.controller.waiting) control.quiet in
-            let kept : bus.entry_withdraws d ≡ d =
-            (λ i. record {
-              controller = record d.controller { waiting = controllers.kept_in (control.quiet i) d.controller.waiting };
-              reserved = bus.reserved_without (nothing i) d.reserved;
-            }) in
-            subst (λ x. StepsTo answer_of after (OfPanel (panel.Withdraw k)) l n (record l {
-              bus = record l.bus { devices = record l.bus.devices { entries = x } };
-            })) (sym (ap (slice_set l.bus.devices.entries k) kept ∙ set_same k d l.bus.devices.entries a))
-            (by_plain answer_of after (OfPanel (panel.Withdraw k)) l n l (make_none answer_of after (λ moves. Made (OfPanel (panel.Withdraw k)) l moves) l n
-            (inl (refl, ap (λ o. withdrawn (bus.withdrawal_of o)) a ∙ ap option_to_list nothing)) h))
 
         by_found : FoundAt (Sites l) k k l.bus.devices.entries l.stations n.sites
             → StepsTo answer_of after (OfPanel (panel.Withdraw k)) l n (record l { bus = bus.after_withdraw_at k l.bus })
         by_found (Nobody o a b c) =
             let next : InUse H = record l { bus = bus.after_withdraw_at k l.bus } in
-            by_own answer_of after (OfPanel (panel.Withdraw k)) (Withdraw k) l n next refl (inr (refl, ap begun_of b)) tt
+            by_own answer_of after (OfPanel (panel.Withdraw k)) (Withdraw k) l n next refl refl tt
             (subst (IsNetOf next) (sym (ap (λ q. line.change_at k q (line.withdraws answer_of after) n) c))
             (other_changes k bus.entry_withdraws l n h b))
         by_found (Somebody d t s a b c has) =
-            subst (λ q. StepsTo answer_of after (OfPanel (panel.Withdraw k)) l n (record l { bus = changed_bus k bus.entry_withdraws l.bus q })) (sym a) (by_begun d t s a b c has t.begun refl)
+            subst (λ q. StepsTo answer_of after (OfPanel (panel.Withdraw k)) l n (record l { bus = changed_bus k bus.entry_withdraws l.bus q })) (sym a) (by_site d t s a b c has)
 
     -- ---- another address
 

@@ -89,7 +89,7 @@ module _ {H : Type 0} where
       panel_ruled (panel.Withdraw k) places order quiet rule range =
           let s = steps_to (OfPanel (panel.Withdraw k)) places order quiet rule range in
           let still : Each IsStill s.moves =
-          elim s.made [ inl (are, nothing) ↦ subst (Each IsStill) (sym are) tt | inr (are, none) ↦ subst (Each IsStill) (sym are) (tt, tt) ] in
+          subst (Each IsStill) (sym s.made) (tt, tt) in
           by_steps answer_of after suffices nobody reads n0 up l n notes noted h path agree (OfPanel (panel.Withdraw k))
           (after_call answer_of after (OfPanel (panel.Withdraw k)) places l) s
           (free_rule answer_of after s.moves n noted (each_map IsStill IsFree still_free s.moves still) s.fit)

@@ -1,5 +1,5 @@
 -- What one call comes to: moves of its own kind alone.
-use Rattle.osdp_calls.proofs.Common.{◌≡◌, ℕ, List, [], ◌∷◌, ◌⊎◌, Some, None, refl, sym, ap, ◌∙◌, inl, inr, CommandFits, Room, Command, comset_of, ControllerConfig, retarget_refusal_at, submit_refusal_at, withdrawal_at, BusConfig, BusFault, each_map, Each, Answer, NetMoveFits, NetMovesFit, Somewhere, Call, NewDevice, NewPanel, OfPanel, Step, SubmitEvent, begun_of, withdrawn, InUse}
+use Rattle.osdp_calls.proofs.Common.{◌≡◌, ℕ, List, [], ◌∷◌, ◌⊎◌, Some, None, refl, sym, ap, ◌∙◌, inl, inr, CommandFits, Room, Command, comset_of, ControllerConfig, retarget_refusal_at, submit_refusal_at, BusConfig, BusFault, each_map, Each, Answer, NetMoveFits, NetMovesFit, Somewhere, Call, NewDevice, NewPanel, OfPanel, Step, SubmitEvent, InUse}
 use Rattle.osdp_bus_laws.specs.Calls as bus
 use Rattle.osdp_shared_line.specs.Line.{Net, NetMove, Queue, RestartPanel, RestartReader, Retarget, SetBusy, Submit, Tick, Withdraw, after_net, is_comset_refused, run, site_at}
 use Rattle.osdp_shared_line.specs.Line as line
@@ -33,8 +33,7 @@ module _ {H : Type 0} where
   MadeByPanel (bus.Retarget k address) l moves =
       ((fault : BusFault) × (retarget_refusal_at k address l.bus ≡ Some fault) × (moves ≡ []))
       ⊎ ((retarget_refusal_at k address l.bus ≡ None) × (moves ≡ Retarget k address ∷ []))
-  MadeByPanel (bus.Withdraw k) l moves =
-      ((moves ≡ []) × (withdrawn (withdrawal_at k l.bus) ≡ [])) ⊎ ((moves ≡ Withdraw k ∷ []) × (begun_of (site_at k l.stations) ≡ None))
+  MadeByPanel (bus.Withdraw k) l moves = moves ≡ Withdraw k ∷ []
   MadeByPanel (bus.OnBytes bytes now) l moves = Unit {0}
   MadeByPanel (bus.OnSilence now) l moves = Unit {0}
   MadeByPanel (bus.Tick now) l moves = Unit {0}

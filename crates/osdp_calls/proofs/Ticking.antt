@@ -1,5 +1,5 @@
 -- A tick of one of the bus's controllers: what it says goes to every device. Where a session was to begin, it begins with that.
-use Rattle.osdp_calls.proofs.Common.{◌≡◌, ◌≢◌, ℕ, ◌+◌, Bool, true, false, cond, List, [], ◌∷◌, ◌++◌, length, Option, Some, None, IfSome, refl, sym, subst, ap, ◌∙◌, arith, append-nil, Packet, next_sequence, Command, Machine, after_begin, begin_refusal, frame_of, is_closed, Ticked, ticks, ticks_in, OpeningExchange, Polling, Session, State, Closed, Quiet, Idle, Waiting, Pausing, waiting_after, reserved_after, ticks_at, ticks_with, Entry, told_at, told_by_device, told_by_ticking, both, each_all, each_append, tick_so, Each, Answer, Net, NetMove, Reopen, Site, Tick, address_of, after_net, changed, is_told, run, site_at, tagged, IsQuiet, at_changed, some_same, begins_session, begins_with, begun_of, changes_at, panel_says, said_for, InUse, Opening, Station, length_push}
+use Rattle.osdp_calls.proofs.Common.{◌≡◌, ◌≢◌, ℕ, ◌+◌, Bool, true, false, cond, List, [], ◌∷◌, ◌++◌, length, Option, Some, None, IfSome, refl, sym, subst, ap, ◌∙◌, arith, append-nil, Packet, Command, Machine, after_begin, begin_refusal, frame_of, is_closed, idle_way, Ticked, ticks, ticks_in, OpeningExchange, Session, State, Closed, Quiet, Idle, Waiting, Pausing, waiting_after, reserved_after, ticks_at, ticks_with, Entry, told_at, told_by_device, told_by_ticking, both, each_all, each_append, tick_so, Each, Answer, Net, NetMove, Reopen, Site, Tick, address_of, after_net, changed, is_told, run, site_at, tagged, IsQuiet, at_changed, some_same, begins_session, begins_with, begun_of, changes_at, panel_says, said_for, InUse, Opening, Station, length_push}
 use Rattle.std.specs.Prelude.{map, nat_le, nat_lt, option_to_list, slice_get, slice_set}
 use Rattle.osdp_controller.specs.Sessions as clocks
 use Rattle.osdp_controller.specs.Ticking as ticking
@@ -21,9 +21,7 @@ pub frames_so : (st : State) (s : Session) (waiting : List Command) → IfSome (
 frames_so Closed s waiting = tt
 frames_so (Quiet until) s waiting =
     both (λ (t : Ticked). IfSome t.step.frame (λ p. p.reply ≡ false)) (nat_le until s.greatest) (ticking.begins OpeningExchange 0 s waiting) (ticking.stays s waiting) refl tt
-frames_so (Idle due) s (command ∷ rest) = refl
-frames_so (Idle due) s [] =
-    both (λ (t : Ticked). IfSome t.step.frame (λ p. p.reply ≡ false)) (nat_le due s.greatest) (ticking.begins Polling (next_sequence s.number) s []) (ticking.stays s []) refl tt
+frames_so (Idle due) s waiting = idle_way (λ (t : Ticked). IfSome t.step.frame (λ p. p.reply ≡ false)) due s waiting (λ e. refl) (λ e. tt) (λ command rest e. refl)
 frames_so (Waiting until sends o) s waiting =
     both (λ (t : Ticked). IfSome t.step.frame (λ p. p.reply ≡ false)) (nat_le until s.greatest) (ticking.tries_again sends o s waiting) (ticking.stays s waiting)
     (both (λ (t : Ticked). IfSome t.step.frame (λ p. p.reply ≡ false)) (nat_lt sends s.config.sends) (ticking.sends_frame (sends + 1) o s waiting) (ticking.gives_up o s waiting) refl tt) tt
@@ -162,7 +160,7 @@ module _ {H : Type 0} where
     opened m g = ticking.begins OpeningExchange 0 (clocks.seen g m.session) m.waiting
 
     abbrev pub opening_packet : Machine → Packet
-    opening_packet m = frame_of OpeningExchange (record m.session { number = 0 })
+    opening_packet m = frame_of OpeningExchange (record m.session { number = 0; asked = false })
 
     -- the line after it
     abbrev pub with_opening : ℕ → Entry → Station H → InUse H → InUse H

@@ -1,8 +1,7 @@
 -- A turn of a device whose program sets the answers is a list of calls: bytes are taken, and then the next packet is answered, or the turn
--- stops before a command about which the program is asked. So is a turn of a panel's loop.
+-- stops before a command about which the program is asked.
 use Rattle.std.specs.Prelude.{◌≡◌, ℕ, List, [], ◌∷◌, Option, Some}
 use Rattle.osdp_msg.specs.declared.command.Command.{Command}
-use Rattle.osdp_bus_laws.specs.Calls as bus
 use Rattle.osdp_device.specs.Deciding.{pending_of, turned}
 use Rattle.osdp_device.specs.Program.{program_after, program_answer}
 use Rattle.osdp_frame.specs.Receiving.{Received, after_take}
@@ -10,10 +9,9 @@ use Rattle.osdp_device.specs.Telling.{next_told}
 use Rattle.osdp_device.specs.declared.program.ProgramAnswers.{ProgramAnswers}
 use Rattle.osdp_device.specs.declared.question.Question.{Question}
 use Rattle.osdp_device.specs.declared.question.Question.TheVariants.{Asked, NotAsked}
-use Rattle.osdp_panel.specs.Turns.{after_turn}
 use Rattle.osdp_reader.specs.declared.handler.Answer.{Answer}
 use Rattle.osdp_shared_line.specs.Line.{site_at}
-use Rattle.osdp_calls.specs.Calls.{Next, OfPanel, Pending, SetHandler, Step, Take, after_calls}
+use Rattle.osdp_calls.specs.Calls.{Next, Pending, SetHandler, Step, Take, after_calls}
 use Rattle.osdp_calls.specs.Lines.{InUse, Station}
 
 -- the program has been asked so far
@@ -50,18 +48,3 @@ pub record TurnsByCalls (l : InUse ProgramAnswers) : Type 0 where
       → IsTurned k (settle_calls k places t) t t.line l
   pub turn : (k : ℕ) (bytes : List ℕ) (now : ℕ) (places : List ℕ) (t : Station ProgramAnswers) → site_at k l.stations ≡ Some t
       → IsTurned k (turn_calls k bytes now places t) t (after_take bytes now t.line) l
-
-module _ {H : Type 0} where
-  -- a turn of a panel's loop: the bytes that its port gave, the report that they bring, the tick of the same moment, and the report of that
-  abbrev pub panel_turn_calls : List ℕ → ℕ → List ℕ → List ℕ → List (Step H)
-  panel_turn_calls bytes now read more =
-      record { call = OfPanel (bus.OnBytes bytes now); places = read }
-      ∷ record { call = OfPanel bus.NextReport; places = [] }
-      ∷ record { call = OfPanel (bus.Tick now); places = more }
-      ∷ record { call = OfPanel bus.NextReport; places = [] }
-      ∷ []
-
-  -- the bus is, after these calls, what the turn leaves
-  abbrev pub PanelTurnsByCalls : (H → Command → Answer) → (H → Command → H) → InUse H → Type 0
-  PanelTurnsByCalls answer_of after l = (bytes : List ℕ) (now : ℕ) (read more : List ℕ)
-      → (after_calls answer_of after (panel_turn_calls bytes now read more) l).bus ≡ after_turn bytes now l.bus

@@ -11,7 +11,7 @@ ghost use Rattle.osdp_calls.specs.Programs.{CallsRuleSuffices};
 ghost use Rattle.osdp_calls.specs.Promises.{CallsKeepApart};
 ghost use Rattle.osdp_calls.specs.Sayings.{AddsMakeTheBus, SaysWhatGoesOut};
 ghost use Rattle.osdp_calls.specs.Strangers.{OthersArePassedOver};
-ghost use Rattle.osdp_calls.specs.Turning.{PanelTurnsByCalls, TurnsByCalls};
+ghost use Rattle.osdp_calls.specs.Turning.{TurnsByCalls};
 ghost use Rattle.osdp_device.specs.declared.program.ProgramAnswers.{ProgramAnswers};
 
 use osdp_reader::Handler;
@@ -28,7 +28,7 @@ pub fn calls_rule_suffices<H: Handler>()
     osdp_link_laws::reads_what_is_asked();
 }
 
-/// Over any calls that keep the premises no two devices are ever at one address.
+/// Over any calls that keep the premises no two devices of ours are ever at one address.
 pub fn calls_keep_apart<H: Handler>()
     ensures { CallsKeepApart H.answer_of H.after }
 {
@@ -61,11 +61,6 @@ pub fn hands_over_what_is_read()
 /// A turn of a device whose program sets the answers, and what it does after `take`, are lists of these calls.
 pub fn turns_are_calls()
     ensures { (l : InUse ProgramAnswers) → TurnsByCalls l }
-{}
-
-/// A turn of a panel's loop is a list of these calls.
-pub fn panel_turns_are_calls<H: Handler>()
-    ensures { (l : InUse H) → PanelTurnsByCalls H.answer_of H.after l }
 {}
 
 /// The bus of a line in use is, as long as the panel is not made anew, what the panel's calls make of it, and a device is what the calls of its

@@ -3,6 +3,7 @@ mod Keeping
 pub mod OwnCalls
 pub mod LinePrograms
 pub mod CPrograms
+mod RunAnew
 pub mod SimulatedLists
 pub mod SimulatedEnds
 pub mod SimulatedBus

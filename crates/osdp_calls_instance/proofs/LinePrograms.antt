@@ -5,6 +5,7 @@ use Rattle.osdp_frame.specs.Held as frame
 use Rattle.osdp_bus_laws.specs.Calls as bus
 use Rattle.osdp_device.specs.declared.status.DeviceStatus.{DeviceStatus}
 use Rattle.osdp_line_calls.specs.PanelSessions as panel
+use Rattle.osdp_panel.specs.Panels.{panel_config}
 use Rattle.osdp_line_calls.specs.ReaderCalls.{CallFits}
 use Rattle.osdp_line_calls.specs.ReaderSessions as device
 use Rattle.osdp_line_calls.specs.declared.panel_call.PanelCall.{PanelCall}
@@ -295,7 +296,7 @@ panel_lines_are {H} adds = record {
         → (after_panel_line own s).bus ≡ bus_after_each {H = H} ((line_panel {H = H}).calls own s) s.bus
     of_bus (SaysToPanel None) s fits = refl
     of_bus (SaysToPanel (Some call)) s fits = bus_same H (panel_runs.calls_of call s.now) s.bus
-    of_bus (PanelAnew config addresses) s fits = adds_so addresses (panel.new_session config) refl ∙ adds config addresses fits
+    of_bus (PanelAnew config addresses) s fits = adds_so addresses (panel.new_session (panel_config config)) refl ∙ adds (panel_config config) addresses fits
 
 -- ---- a device's lines
 

@@ -8,7 +8,7 @@ use Rattle.osdp_msg.specs.declared.command.Command.{Command}
 use Rattle.osdp_msg.specs.declared.event.Event.{Event}
 use Rattle.osdp_msg.specs.declared.fault.MsgFault.{MsgFault}
 use Rattle.osdp_msg.specs.declared.limits.Room.{Room}
-use Rattle.osdp_bus.specs.Machine.{add_refusal, changed_unless}
+use Rattle.osdp_bus.specs.Machine.{add_refusal, after_add, changed_unless}
 use Rattle.osdp_bus.specs.declared.config.BusConfig.{BusConfig}
 use Rattle.osdp_bus.specs.declared.fault.BusFault.TheVariants as fault
 use Rattle.osdp_bus_laws.specs.Calls as bus
@@ -20,8 +20,6 @@ use Rattle.osdp_device.specs.declared.program.ProgramAnswers.{ProgramAnswers}
 use Rattle.osdp_device.specs.declared.question.Question.{Question}
 use Rattle.osdp_device.specs.declared.question.Question.TheVariants.{Answered, Asked, NotAsked}
 use Rattle.osdp_device.specs.declared.status.DeviceStatus.{DeviceStatus}
-use Rattle.osdp_orders.specs.Orders.{OrdersState, after_add, new_orders, with_new_queue}
-use Rattle.osdp_orders_laws.specs.OfTheBus.{bus_calls}
 use Rattle.osdp_reader.specs.State.{ReaderState}
 use Rattle.osdp_reader.specs.declared.handler.Answer.{Answer}
 use Rattle.osdp_reader.specs.declared.handler.Answer.TheVariants as answer
@@ -34,20 +32,20 @@ use Rattle.osdp_c_values.specs.declared.settings.PanelSettings.{PanelSettings}
 use Rattle.osdp_c_values.specs.declared.status.Status.{Status}
 use Rattle.osdp_c_values.specs.declared.status.Status.TheVariants as status
 use Rattle.osdp_c_values.specs.Statuses.{number}
-use Rattle.osdp_c_values.specs.Settings.{bus_config_of, bus_config_with, id_of, limit_of, polls_between}
+use Rattle.osdp_c_values.specs.Settings.{bus_config_of, bus_config_with, id_of, limit_of}
 use Rattle.osdp_c_values.specs.Addresses.{device_address}
 use Rattle.osdp_c_values.specs.Calls.{Done, IsDone, frees}
 use Rattle.osdp_c_values.specs.Panels as panel
 use Rattle.osdp_c_values.specs.Readers as reader
 use Rattle.osdp_calls.specs.Calls.{Call, NewDevice, NewPanel, Next, OfPanel, Pending, SetBusy, SetHandler, Silence, SubmitEvent, Take, TickDevice, LapseEvent, WithdrawEvent}
 use Rattle.osdp_calls.specs.Lines.{bus_with}
+use Rattle.osdp_panel.specs.Panels.{panel_config}
 use Rattle.osdp_calls_instance.specs.OwnCalls.{ArePanelCalls, DeviceKind, PanelKind}
 
 -- ---- a panel
 
 -- the calls of a panel's handle: of a text what was read of it, and `Looks` for each call that only tells something. `Adds` is an `osdp_panel_add` that
--- finds memory. Made anew: freed, made with these settings, with POLLs between orders or not and with this limit of its clock, and its devices added,
--- all done.
+-- finds memory. Made anew: freed, made with these settings and with this limit of its clock, and its devices added, all done.
 pub data PanelCall : Type 0 where
   Begin : ℕ → ℕ → PanelCall
   Submit : ℕ → ℕ → List ℕ → PanelCall
@@ -62,18 +60,12 @@ pub data PanelCall : Type 0 where
   LooksAt : ℕ → PanelCall
   Looks : PanelCall
   Adds : ℕ → PanelCall
-  PanelAnew : Bool → BusConfig → ℕ → List ℕ → PanelCall
+  PanelAnew : BusConfig → ℕ → List ℕ → PanelCall
 
--- orders with a queue for each of these devices, where they wait for POLLs
-abbrev pub orders_with : List ℕ → OrdersState → OrdersState
-orders_with [] o = o
-orders_with (address ∷ addresses) o = orders_with addresses (with_new_queue o)
-
--- a panel that was made with these settings, and to which these devices were added
-abbrev pub panel_made : Bool → BusConfig → ℕ → List ℕ → PanelMachine
-panel_made between config limit addresses = record {
-  orders = orders_with addresses (new_orders between config.room);
-  bus = bus_with config addresses;
+-- a panel that was made with these settings, and to which these devices were added: a POLL stands between any two orders of a device
+abbrev pub panel_made : BusConfig → ℕ → List ℕ → PanelMachine
+panel_made config limit addresses = record {
+  bus = bus_with (panel_config config) addresses;
   clock = new_clock limit;
   sent = tt;
 }
@@ -82,34 +74,34 @@ panel_made between config limit addresses = record {
 abbrev pub adds : ℕ → PanelMachine → Done PanelMachine
 adds address m = record {
   status = panel.status_of (add_refusal address m.bus);
-  machine = changed_unless (add_refusal address m.bus) m (panel.with_panel (after_add address (panel.panel_of m)) m);
+  machine = changed_unless (add_refusal address m.bus) m (record m { bus = after_add address m.bus });
 }
 
 -- each by its definition
 abbrev pub panel_call : PanelCall → PanelMachine → Done PanelMachine
 panel_call (Begin entry now) m = panel.at_moment now (panel.begins entry now) m
-panel_call (Submit entry code body) m = panel.on_panel (panel.submits_data entry code body) m
-panel_call (SubmitText entry read) m = panel.on_panel (panel.submits_text entry read) m
-panel_call (Withdraw entry) m = panel.on_panel (panel.withdraws entry) m
+panel_call (Submit entry code body) m = panel.on_bus (panel.submits_data entry code body) m
+panel_call (SubmitText entry read) m = panel.on_bus (panel.submits_text entry read) m
+panel_call (Withdraw entry) m = panel.on_bus (panel.withdraws entry) m
 panel_call (Retarget entry address) m = panel.on_bus (panel.retargets entry (device_address address)) m
-panel_call (Bytes bytes now) m = panel.at_moment now (panel.beside (panel.hears bytes now)) m
-panel_call (PanelSilence now) m = panel.at_moment now (panel.beside (panel.falls_silent now)) m
+panel_call (Bytes bytes now) m = panel.at_moment now (panel.hears bytes now) m
+panel_call (PanelSilence now) m = panel.at_moment now (panel.falls_silent now) m
 panel_call (PanelTick now) m = panel.at_moment now (panel.ticks now) m
 panel_call NextReport m = panel.on_bus panel.reports m
 panel_call (SetPanelMoment now) m = panel.sets_moment now m
 panel_call (LooksAt entry) m = panel.on_bus (panel.looks_at entry) m
 panel_call Looks m = panel.on_bus panel.does m
 panel_call (Adds address) m = adds (device_address address) m
-panel_call (PanelAnew between config limit addresses) m = record { status = status.Done; machine = panel_made between config limit addresses }
+panel_call (PanelAnew config limit addresses) m = record { status = status.Done; machine = panel_made config limit addresses }
 
 -- a call at a moment that is not accepted is none
 abbrev pub if_accepted : {H : Type 0} → ℕ → PanelMachine → List bus.Call → List (Call H)
 if_accepted now m calls = if accepts now m.clock then map OfPanel calls else []
 
--- an order that waits for a POLL is no call yet: it is one of the tick that sends the POLL
-abbrev pub submitted : {H : Type 0} → ℕ → Option Command → PanelMachine → List (Call H)
-submitted entry None m = []
-submitted entry (Some command) m = map OfPanel (bus_calls (bus.Submit entry command) (panel.panel_of m))
+-- an order, of a command that was read
+abbrev pub submitted : {H : Type 0} → ℕ → Option Command → List (Call H)
+submitted entry None = []
+submitted entry (Some command) = map OfPanel (bus.orders entry command)
 
 -- the command that was read of a code and data, if one was
 abbrev pub if_read : Result Command MsgFault → Option Command
@@ -118,20 +110,20 @@ if_read (Err fault) = None
 
 -- which calls that is: a moment that is set is a read of no bytes
 abbrev pub panel_calls : {H : Type 0} → PanelCall → PanelMachine → List (Call H)
-panel_calls (Begin entry now) m = if_accepted now m (bus_calls (bus.Begin entry now) (panel.panel_of m))
-panel_calls (Submit entry code body) m = submitted entry (if_read (command_of code body)) m
-panel_calls (SubmitText entry read) m = submitted entry read m
+panel_calls (Begin entry now) m = if_accepted now m (bus.Begin entry now ∷ [])
+panel_calls (Submit entry code body) m = submitted entry (if_read (command_of code body))
+panel_calls (SubmitText entry read) m = submitted entry read
 panel_calls (Withdraw entry) m = OfPanel (bus.Withdraw entry) ∷ []
 panel_calls (Retarget entry address) m = OfPanel (bus.Retarget entry (device_address address)) ∷ []
 panel_calls (Bytes bytes now) m = if_accepted now m (bus.OnBytes bytes now ∷ [])
 panel_calls (PanelSilence now) m = if_accepted now m (bus.OnSilence now ∷ [])
-panel_calls (PanelTick now) m = if_accepted now m (bus_calls (bus.Tick now) (panel.panel_of m))
+panel_calls (PanelTick now) m = if_accepted now m (bus.Tick now ∷ [])
 panel_calls NextReport m = OfPanel bus.NextReport ∷ []
 panel_calls (SetPanelMoment now) m = OfPanel (bus.OnBytes [] now) ∷ []
 panel_calls (LooksAt entry) m = []
 panel_calls Looks m = []
 panel_calls (Adds address) m = OfPanel (bus.Add (device_address address)) ∷ []
-panel_calls (PanelAnew between config limit addresses) m = NewPanel config addresses ∷ []
+panel_calls (PanelAnew config limit addresses) m = NewPanel (panel_config config) addresses ∷ []
 
 -- the kind of a panel in C: its own calls are those of its handle, and each of them fits
 abbrev pub c_panel : {H : Type 0} → PanelKind H
@@ -157,7 +149,7 @@ abbrev pub MakesAnewBy : (PanelSettings → Option BusConfig) → (PanelSettings
 MakesAnewBy config_of NewEnds = (settings : PanelSettings) (m : PanelMachine) (freed made last : Option PanelMachine) (addresses : List ℕ)
     → IsDone (frees (Some m)) (number status.Done) freed → NewEnds settings freed (number status.Done) made → AddsEach addresses made last
     → (config : BusConfig) × (config_of settings ≡ Some config)
-    × (last ≡ Some (panel_made (polls_between settings) config (limit_of settings.clock_limit) (map device_address addresses)))
+    × (last ≡ Some (panel_made config (limit_of settings.clock_limit) (map device_address addresses)))
 
 -- by the call that makes it with room for each command, and by the one with room for so many bytes of them
 pub record MakesAnew : Type 0 where

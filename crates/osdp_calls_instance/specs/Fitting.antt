@@ -9,6 +9,7 @@ use Rattle.osdp_bus.specs.declared.config.BusConfig.{BusConfig}
 use Rattle.osdp_c_values.specs.declared.machine.PanelMachine.{PanelMachine}
 use Rattle.osdp_c_values.specs.declared.machine.ReaderMachine.{ReaderMachine}
 use Rattle.osdp_line_calls.specs.PanelSessions as panel_sessions
+use Rattle.osdp_panel.specs.Panels.{panel_config}
 use Rattle.osdp_line_calls.specs.ReaderCalls.{CallFits}
 use Rattle.osdp_line_calls.specs.ReaderSessions as device_sessions
 use Rattle.osdp_line_calls.specs.declared.panel_call.PanelCall.{PanelCall}
@@ -50,7 +51,7 @@ two_seconds = lines.SaysToDevice (Some (to_device.At 2000))
 pub record LinesFit (H : Type 0) : Type 0 where
   pub panel : (said : Option PanelCall) (s : panel_sessions.Session) → (lines.line_panel {H = H}).Fits (lines.SaysToPanel said) s
   pub anew : (config : BusConfig) (addresses : List ℕ) (s : panel_sessions.Session)
-      → (lines.line_panel {H = H}).Fits (lines.PanelAnew config addresses) s ↔ NoneRefused addresses (new_bus config)
+      → (lines.line_panel {H = H}).Fits (lines.PanelAnew config addresses) s ↔ NoneRefused addresses (new_bus (panel_config config))
   pub two : (room : Room) (s : panel_sessions.Session) → (lines.line_panel {H = H}).Fits (lines.PanelAnew (default_config Crc room) two_addresses) s
   pub nothing : (s : device_sessions.Session) → lines.line_device.Fits (lines.SaysToDevice None) s
   pub device : (call : ReaderCall) (s : device_sessions.Session) → lines.line_device.Fits (lines.SaysToDevice (Some call)) s ↔ CallFits call

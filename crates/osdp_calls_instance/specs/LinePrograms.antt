@@ -13,6 +13,7 @@ use Rattle.osdp_device.specs.declared.status.DeviceStatus.{DeviceStatus}
 use Rattle.osdp_line_answers.specs.Answers.{Speaks}
 use Rattle.osdp_line_calls.specs.PanelLines as panel_lines
 use Rattle.osdp_line_calls.specs.PanelSessions as panel
+use Rattle.osdp_line_calls.specs.Runs.{IsPanelOf}
 use Rattle.osdp_line_calls.specs.ReaderAbsence.{lets_go}
 use Rattle.osdp_line_calls.specs.ReaderCalls.{CallFits}
 use Rattle.osdp_line_calls.specs.ReaderLines as device_lines
@@ -33,10 +34,12 @@ use Rattle.osdp_reader.specs.declared.handler.Answer.{Answer}
 use Rattle.osdp_calls.specs.Calls.{Call, NewDevice, NewPanel, Next, OfPanel, SetBusy, SetHandler, Silence, SubmitEvent, Take, TickDevice, LapseEvent, WithdrawEvent}
 use Rattle.osdp_calls.specs.Sayings.{NoneRefused}
 use Rattle.osdp_calls_instance.specs.OwnCalls.{ArePanelCalls, DeviceKind, PanelKind}
+use Rattle.osdp_panel.specs.Panels.{panel_config}
 
 -- ---- a panel
 
--- a line, as the call that it says, or none; or the panel is run anew with these settings, and its first lines add devices at these addresses
+-- a line, as the call that it says, or none; or the panel is run anew with these settings, and its first lines add devices at these addresses. A POLL stands between
+-- any two orders of a device, whatever the settings are
 pub data PanelLine : Type 0 where
   SaysToPanel : Option PanelCall → PanelLine
   PanelAnew : BusConfig → List ℕ → PanelLine
@@ -49,12 +52,12 @@ after_adds (address ∷ addresses) s = after_adds addresses (panel_runs.after_sa
 -- a session after a line
 abbrev pub after_panel_line : PanelLine → panel.Session → panel.Session
 after_panel_line (SaysToPanel said) s = panel_runs.after_said said s
-after_panel_line (PanelAnew config addresses) s = after_adds addresses (panel.new_session config)
+after_panel_line (PanelAnew config addresses) s = after_adds addresses (panel.new_session (panel_config config))
 
 -- a panel may be run anew with entries that can be added as they stand
 abbrev pub PanelLineFits : PanelLine → panel.Session → Type 0
 PanelLineFits (SaysToPanel said) s = Unit {0}
-PanelLineFits (PanelAnew config addresses) s = NoneRefused addresses (new_bus config)
+PanelLineFits (PanelAnew config addresses) s = NoneRefused addresses (new_bus (panel_config config))
 
 -- which calls that is: a line that says a call is that one, and then the report that waits is taken
 abbrev pub calls_said : {H : Type 0} → Option PanelCall → panel.Session → List (Call H)
@@ -64,7 +67,7 @@ calls_said (Some call) s = map OfPanel (panel_runs.calls_of call s.now)
 -- .. and a panel that is run anew is one that is made anew
 abbrev pub panel_line_calls : {H : Type 0} → PanelLine → panel.Session → List (Call H)
 panel_line_calls (SaysToPanel said) s = calls_said said s
-panel_line_calls (PanelAnew config addresses) s = NewPanel config addresses ∷ []
+panel_line_calls (PanelAnew config addresses) s = NewPanel (panel_config config) addresses ∷ []
 
 -- the kind of a panel by lines: its own calls are its lines
 abbrev pub line_panel : {H : Type 0} → PanelKind H
@@ -189,6 +192,11 @@ pub record LinesAreThese : Type 0 where
       → (said : List (Option PanelCall)) × AreSaid to_panel.call_words to_panel.CallFits lines said × (last ≡ after_panel_lines said first)
   pub device : (first last : device.Session) (lines : List (List ℕ)) (text : List ℕ) → Speaks device_lines.Answers first lines text last
       → (said : List (Option ReaderCall)) × AreSaid to_device.call_words to_device.CallFits lines said × (last ≡ after_device_lines said first)
+
+-- what `osdp panel` runs by any words is a panel that is run anew, without entries
+abbrev pub PanelsRunAnew : Type 0
+PanelsRunAnew = (given : List (List ℕ)) (first s : panel.Session) → IsPanelOf given first
+    → (config : BusConfig) × (first ≡ after_panel_line (PanelAnew config []) s)
 
 -- what lines are to a panel beside any devices, and to a device
 abbrev pub PanelLinesAreCalls : Type 0 → Type 0

@@ -6,7 +6,7 @@
 ghost use Rattle.osdp_calls_instance.specs.CPrograms.{AddsInUse, MakesAnew, PanelCallsAreCalls, c_device, c_panel};
 ghost use Rattle.osdp_calls_instance.specs.Fitting.{CallsForCFit, LinesFit};
 ghost use Rattle.osdp_calls_instance.specs.Instance.{SomeCallsKeep};
-ghost use Rattle.osdp_calls_instance.specs.LinePrograms.{LinesAreThese, PanelLinesAreCalls, line_device, line_panel};
+ghost use Rattle.osdp_calls_instance.specs.LinePrograms.{LinesAreThese, PanelLinesAreCalls, PanelsRunAnew, line_device, line_panel};
 ghost use Rattle.osdp_calls_instance.specs.OwnCalls.{CallTheLine, StandsOnCalls};
 ghost use Rattle.osdp_calls_instance.specs.Rule.{TwoCallsKeepRule};
 ghost use Rattle.osdp_calls_instance.specs.SimulatedBus.{RunIsCalls, RunsFromASetUp};
@@ -51,10 +51,9 @@ fn stands_on_calls<H: Handler>()
 
 /// Whatever programs in C call, losses of power among it, is a list of calls of a line in use, which leads to the same bus and devices. Each call of a
 /// handle is the calls that `panel_calls` and `device_calls` name. What is promised of them then is law `c_programs_hold_once` of `osdp_programs_ledger`.
-/// An order that waits for a POLL is no call yet: it is one of the tick that sends the POLL. An event that is too old lapses where it was
-/// ever offered, and else it is taken back. A panel whose handle is freed, made and given its devices, each call done, is one made anew, whether it is made with
-/// room for each command or for so many bytes of them, and with POLLs between orders or not. A device that is added in use is one of the bus; where memory
-/// ends the panel stays as it is.
+/// An event that is too old lapses where it was ever offered, and else it is taken back. A panel whose handle is freed, made and given its devices, each call
+/// done, is one made anew, whether it is made with room for each command or for so many bytes of them: a POLL stands between any two orders of a device. A device
+/// that is added in use is one of the bus; where memory ends the panel stays as it is.
 pub fn calls_for_c_are_calls()
     ensures added { AddsInUse }
     ensures anew { MakesAnew }
@@ -63,12 +62,13 @@ pub fn calls_for_c_are_calls()
     stands_on_calls::<ProgramAnswers>();
 }
 
-/// What a run of lines to `osdp panel` and to `osdp reader` leaves is what the calls leave that these lines say. And whatever a panel and its devices
-/// are called by lines, power losses among it, is a list of calls of a line in use, which brings the bus and the devices to the same. An
-/// event that leaves by a line lapses where it is in doubt, and else it is taken back. What is promised of them then is law `line_programs_hold_once` of
-/// `osdp_programs_ledger`.
+/// What a run of lines to `osdp panel` and to `osdp reader`, leaves is what the calls leave that these lines say. The panel that `osdp panel` runs by any words is
+/// one that is made anew, where a POLL stands between any two orders of a device. And whatever such a panel and its devices are called by lines, power losses among it, is a list of calls of a line in use, which brings the bus and
+/// the devices to the same. An event that leaves by a line lapses where it is in doubt, and else it is taken back. What is promised of them then is
+/// law `line_programs_hold_once` of `osdp_programs_ledger`.
 pub fn lines_are_calls()
     ensures lines { LinesAreThese }
+    ensures anew { PanelsRunAnew }
     ensures line { CallTheLine line_panel line_device status_answer status_after }
 {
     stands_on_calls::<DeviceStatus>();
@@ -76,9 +76,10 @@ pub fn lines_are_calls()
     osdp_line_laws::a_devices_run_is_its_calls();
 }
 
-/// The laws of programs leave out nearly none of the calls for C and of the lines. Of calls for C they speak of each, also of one that makes a device anew
-/// as another model. Of lines to a panel they speak of each, but of a run anew with entries that can't be added; two at different addresses can. Of lines
-/// to a device they speak of each, also of one by which a key leaves that is in doubt, and of one by which a key leaves that was never offered.
+/// The laws of programs leave out nearly none of the calls for C and of the lines. Of calls for C they speak of each, also of one that makes a device
+/// anew as another model. Of lines to a panel they speak of each, but of a run anew with entries that can't be added;
+/// two at different addresses can. Of lines to a device they speak of each, also of one by which a key leaves that is in doubt, and of one by which a
+/// key leaves that was never offered.
 ///
 /// Of a schedule's steps they ask what goes over the line of one that hands the readers a burst alone, and a step orders no COMSET exactly where it is no
 /// order of one. Some schedule is taken that orders none, in which a session begins again. One is taken that orders one, and its run keeps to the rule.

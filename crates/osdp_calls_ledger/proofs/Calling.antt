@@ -11,7 +11,7 @@ use Rattle.osdp_calls.proofs.Losing.{IsPlain}
 use Rattle.osdp_calls.proofs.Steps.{IsOf, plain_of}
 use Rattle.osdp_calls_ledger.specs.Acted.{acted_in}
 use Rattle.osdp_calls_ledger.proofs.Nexting.{next_of_shows, next_of_takes}
-use Rattle.osdp_calls_ledger.proofs.Own.{no_steps, none_back, of_device, of_power, of_submit, of_withdraw}
+use Rattle.osdp_calls_ledger.proofs.Own.{no_steps, of_device, of_power, of_submit, of_withdraw}
 use Rattle.osdp_calls_ledger.proofs.Quiet.{TakesNone, none_takes, seen_none}
 use Rattle.osdp_calls_ledger.proofs.Reading.{reads_show, reads_shown, reported_more}
 use Rattle.osdp_calls_ledger.proofs.Seen.{seen}
@@ -134,14 +134,9 @@ module _ {H : Type 0} (answer_of : H → Command → Answer) (after : H → Comm
         ])
     panel_shows (bus.Withdraw i) places order quiet addresses range s =
         by_steps (OfPanel (bus.Withdraw i)) l n (after_call answer_of after (OfPanel (bus.Withdraw i)) places l) s
-        (elim s.made [ inl (are, back) ↦ subst (Each TakesNone) (sym are) tt | inr (are, none) ↦ subst (Each TakesNone) (sym are) (tt, tt) ])
+        (subst (Each TakesNone) (sym s.made) (tt, tt))
         (λ k. call_keeps k answer_of after (OfPanel (bus.Withdraw i)) places l)
-        (λ k g own. elim s.made [
-          | inl (are, back) ↦
-              ap (λ ms. seen answer_of after k ms n g) are
-              ∙ sym (ap (λ o. cond (i == k) (withdraws o g) []) (none_back (Rattle.osdp_bus.specs.Machine.withdrawal_at i l.bus) back) ∙ no_steps (i == k) [] refl)
-          | inr (are, none) ↦ ap (λ ms. seen answer_of after k ms n g) are ∙ of_withdraw answer_of after i l n h none k g own
-        ])
+        (λ k g own. ap (λ ms. seen answer_of after k ms n g) s.made ∙ of_withdraw answer_of after i l n h k g own)
     panel_shows (bus.Retarget i address) places order quiet addresses range s =
         by_steps (OfPanel (bus.Retarget i address)) l n (after_call answer_of after (OfPanel (bus.Retarget i address)) places l) s
         (elim s.made [ inl (fault, is, are) ↦ subst (Each TakesNone) (sym are) tt | inr (none, are) ↦ subst (Each TakesNone) (sym are) (tt, tt) ])

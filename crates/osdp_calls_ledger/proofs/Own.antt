@@ -8,13 +8,9 @@ use Rattle.osdp_ledger.specs.Ledger as ledger
 use Rattle.osdp_link_laws.specs.Link as link
 use Rattle.osdp_link_ledger.specs.Steps as links
 use Rattle.osdp_calls.proofs.Accepting.{command_accepted}
+use Rattle.osdp_calls.proofs.Controllers.{taken_back_same}
 use Rattle.osdp_calls_ledger.proofs.Seen.{seen, seen_at}
 use Rattle.osdp_shared_line.proofs.Doing.{both_accept}
-
-pub none_back : (r : Result (Option Command) BusFault) → withdrawn r ≡ [] → given_back r ≡ None
-none_back (Ok None) none = refl
-none_back (Ok (Some command)) none = absurd (let e = none in cc)
-none_back (Err fault) none = refl
 
 -- nothing, whichever way
 pub no_steps : (b : Bool) (steps : List ledger.Step) → steps ≡ [] → cond b steps [] ≡ []
@@ -105,9 +101,9 @@ module _ {H : Type 0} (answer_of : H → Command → Answer) (after : H → Comm
 
   -- ---- .. or taken back
 
-  pub of_withdraw : (i : ℕ) (l : InUse H) (n : Net H) → IsNetOf l n → begun_of (site_at i l.stations) ≡ None → (k : ℕ) (g : Ledger) → IsOurs k l.stations
+  pub of_withdraw : (i : ℕ) (l : InUse H) (n : Net H) → IsNetOf l n → (k : ℕ) (g : Ledger) → IsOurs k l.stations
       → seen answer_of after k (Withdraw i ∷ []) n g ≡ panel_steps k (bus.Withdraw i) l.bus g
-  of_withdraw i l n h none k g own =
+  of_withdraw i l n h k g own =
       seen_one k (Withdraw i) n g ∙ by_found (found (Sites l) k l.bus.devices.entries l.stations n.sites h.sites)
     where
       by_found : FoundAt (Sites l) k k l.bus.devices.entries l.stations n.sites
@@ -118,9 +114,7 @@ module _ {H : Type 0} (answer_of : H → Command → Answer) (after : H → Comm
           ∙ one_shown i k link.Withdraw (view k s n) g
           ∙ elim (eqb_tells i k) [
             | inl equal ↦
-                let begun : t.begun ≡ None = sym (ap begun_of b) ∙ subst (λ j. begun_of (site_at j l.stations) ≡ None) equal.1 none in
-                let control : IsSame l.bus.greatest d.controller s.controller = subst (λ o. Controls o l.bus.greatest d.controller s.controller) begun has.controller in
-                ap (λ (m : Machine). cond (i == k) (withdraws (withdrawn_in m.session.state m.waiting) g) []) control.same
+                ap (λ (o : Option Command). cond (i == k) (withdraws o g) []) (taken_back_same t.begun l.bus.greatest d.controller s.controller has.controller)
                 ∙ sym (ap (λ o. cond (i == k) (withdraws (given_back (withdrawal_of o)) g) []) (subst (λ j. device_of j l.bus ≡ Some d) (sym equal.1) a))
             | inr differs ↦
                 ap (λ b. cond b (withdraws (withdrawn_in s.controller.session.state s.controller.waiting) g) []) differs.0

@@ -31,8 +31,8 @@ pub fn each_taken_is_answered<H: Handler>()
     ensures { EachTakenIsAnswered H.answer_of H.after }
 {}
 
-/// So what the programs of each entry are promised is what its ledger says, a sentence each. Each accepted command has one place, in the order of
-/// submission. None is taken twice. What is settled was taken, with that answer. At most one is told in doubt a session. Each accepted event has left
+/// What the programs of each entry are promised over any calls of a bus that add no entry is what its ledger says, a sentence each. Each command that the bus
+/// accepts has one place, in the order of submission. None is taken twice. What is settled was taken, with that answer. At most one is told in doubt a session. Each accepted event has left
 /// the device's queue once, or waits. Events are reported in their order, in each session once, and at most the last of a session is told again later.
 /// None is skipped but by its device's program, or by a loss of the device's power. What the program gave up is what its calls took back or let lapse, one for
 /// one; where it lets none lapse, none has.
@@ -47,7 +47,8 @@ pub fn each_taken_is_answered<H: Handler>()
 ///   elsewhere comes to no address of another entry, and to none at which it may still read what was said for another.
 /// - Set-up: entries stand at different addresses, each with its reader there, which stores no reply but one from its own address or from 127. Further
 ///   entries, after these, may have readers of others: nothing is promised or asked of them.
-/// - Values are in the ranges of their types, and no entry is added later.
+/// - Values are in the ranges of their types, and no entry is added later. A panel that is made anew has our entries first, in the same order. Law
+///   `own_order_holds_once` of `osdp_entry_numbers` lifts both.
 ///
 /// Nothing is asked of moments, of how bytes are cut, of when reports are taken, of who is busy, or of what the handlers answer. The rule for programs of
 /// law `calls_rule_suffices` of `osdp_calls` may stand for the premise on addresses.
@@ -63,8 +64,8 @@ pub fn ledger_holds_once<H: Handler>()
 /// A restart of the panel costs an entry the commands that are ahead, of which the one on the wire is cut off, and a restart of its device costs the events
 /// of the device's queue, whatever was called before. A restart of the panel costs no event, and one of the device no command.
 ///
-/// Of the events that were queued before a restart of the device, no more is reported but the one that it had offered in this session, which wasn't
-/// reported yet.
+/// Where the calls keep the premises, no more is reported of the events that were queued before a restart of the device but the one that it had offered in
+/// this session, which wasn't reported yet.
 pub fn restarts_cost<H: Handler>()
     ensures device { NewDeviceCosts H.answer_of H.after }
     ensures since { NewDeviceReportsNoMore H.answer_of H.after }
@@ -75,7 +76,8 @@ pub fn restarts_cost<H: Handler>()
 }
 
 /// Where the device of an entry is never made anew, and its program sets no handler, each command that it acted on has the answer of its settings, to ID,
-/// CAP and COMSET, or of its one handler, to all others, in order, whatever the other programs call. None of its events is thrown away.
+/// CAP and COMSET, or of its one handler, to all others, in order, whatever the other programs call that keeps the premises. None of its events is thrown
+/// away.
 pub fn one_device_holds_once<H: Handler>()
     ensures { OneDeviceHoldsOnce H.answer_of H.after }
 {
@@ -93,7 +95,7 @@ pub fn ordinary_is_undisturbed<H: Handler>()
     osdp_ledger::plain_steps_end_told();
 }
 
-/// No session of an entry in which its device has lost no power ends because the device refused a number, whatever the panel's program calls next.
+/// No session of an entry in which its device has lost no power ends because the device refused a number, over any calls that keep the premises.
 pub fn refuses_no_number<H: Handler>()
     ensures { CallsRefuseNoNumber H.answer_of H.after }
 {

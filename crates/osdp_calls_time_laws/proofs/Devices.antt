@@ -1,5 +1,6 @@
 -- What a bus keeps of its devices, and a device whose session is to begin.
 use Rattle.osdp_calls_time_laws.proofs.Common.{◌≡◌, ◌⊎◌, ◌≤◌, ◌<◌, ◌+◌, ℕ, max, Bool, true, false, cond, List, [], ◌∷◌, Option, Some, None, refl, sym, subst, ap, ◌∙◌, inl, inr, arith, leb-true, ◌^◌, IfSome, min, nat_le, nat_lt, slice_get, Packet, next_sequence, Command, ControllerConfig, Closed, Quiet, Idle, Waiting, Pausing, BusState, Devices, entry_hears, entry_ticks, hears_packet, begin_refusal_at, entry_begins, new_device, BusConfig, Entry, BusFault, moments_are_seen, both, some_same, hears_all, HeardAt, Touched, Untouched, heard_at, WaitsTwice, moment_of}
+use Rattle.osdp_controller.proofs.Idling.{idle_way}
 use Rattle.osdp_controller.specs.Hearing.{Heard}
 use Rattle.osdp_controller.specs.Ticking as ticking
 use Rattle.osdp_controller.specs.Ticking.{Ticked, ticks_in}
@@ -138,9 +139,7 @@ pub ticks_config : (st : State) (s : Session) (ws : List Command) → (ticks_in 
 ticks_config Closed s ws = refl
 ticks_config (Quiet until) s ws =
     both (λ (x : Ticked). x.session.config ≡ s.config) (nat_le until s.greatest) (ticking.begins OpeningExchange 0 s ws) (ticking.stays s ws) refl refl
-ticks_config (Idle due) s (command ∷ rest) = refl
-ticks_config (Idle due) s [] =
-    both (λ (x : Ticked). x.session.config ≡ s.config) (nat_le due s.greatest) (ticking.begins Polling (next_sequence s.number) s []) (ticking.stays s []) refl refl
+ticks_config (Idle due) s ws = idle_way (λ (x : Ticked). x.session.config ≡ s.config) due s ws (λ reached. refl) (λ ahead. refl) (λ command rest is. refl)
 ticks_config (Waiting until sends o) s ws =
     both (λ (x : Ticked). x.session.config ≡ s.config) (nat_le until s.greatest) (ticking.tries_again sends o s ws) (ticking.stays s ws)
     (both (λ (x : Ticked). x.session.config ≡ s.config) (nat_lt sends s.config.sends) (ticking.sends_frame (sends + 1) o s ws) (ticking.gives_up o s ws) refl refl) refl
@@ -155,9 +154,7 @@ pub frames_to : (st : State) (s : Session) (ws : List Command) → IfSome (ticks
 frames_to Closed s ws = tt
 frames_to (Quiet until) s ws =
     both (IsTo s.config.address) (nat_le until s.greatest) (ticking.begins OpeningExchange 0 s ws) (ticking.stays s ws) refl tt
-frames_to (Idle due) s (command ∷ rest) = refl
-frames_to (Idle due) s [] =
-    both (IsTo s.config.address) (nat_le due s.greatest) (ticking.begins Polling (next_sequence s.number) s []) (ticking.stays s []) refl tt
+frames_to (Idle due) s ws = idle_way (IsTo s.config.address) due s ws (λ reached. refl) (λ ahead. tt) (λ command rest is. refl)
 frames_to (Waiting until sends o) s ws =
     both (IsTo s.config.address) (nat_le until s.greatest) (ticking.tries_again sends o s ws) (ticking.stays s ws)
     (both (IsTo s.config.address) (nat_lt sends s.config.sends) (ticking.sends_frame (sends + 1) o s ws) (ticking.gives_up o s ws) refl tt) tt

@@ -6,3 +6,5 @@ pub mod Figures
 pub mod Readers
 pub mod Instances
 pub mod Among
+pub mod Between
+pub mod SlowCard

@@ -1,7 +1,9 @@
 -- How many orders of an entry wait, from one call to the next.
-use Rattle.osdp_card_time_laws.proofs.Common.{◌≡◌, ◌∙◌, ap, sym, subst, inl, inr, ℕ, suc, ◌+◌, ◌≤◌, Bool, true, false, List, [], ◌∷◌, ◌++◌, length, Some, None, refl, arith, if◌then◌else◌, drop, is_none, nat_eq, eq-eqb, eqb-false, eqb-true, Command, Entry, BusState, device_of, has_report, entry_ticks, holds, Call, Submit, Tick, after_call, Begins, ends_duty, IsUnderWay, Well, not_idle, accepts, asked_at, waiting_at}
+use Rattle.osdp_card_time_laws.proofs.Common.{◌≡◌, ◌∙◌, ap, sym, subst, inl, inr, ◌⊎◌, ℕ, suc, ◌+◌, ◌≤◌, Bool, true, false, List, [], ◌∷◌, ◌++◌, length, Some, None, refl, arith, if◌then◌else◌, drop, is_none, nat_eq, eq-eqb, eqb-false, eqb-true, Command, Entry, BusState, device_of, has_report, entry_ticks, holds, Call, Submit, Tick, after_call, Begins, ends_duty, IsUnderWay, Well, not_idle, accepts, asked_at, waiting_at}
 use Rattle.std.specs.Option.{option_map_or}
 use Rattle.std.proofs.lemmas.List.{length-append}
+use Rattle.std.specs.Prelude.{is_some}
+use Rattle.osdp_controller.specs.Held.{on_its_way}
 use Rattle.osdp_controller.specs.States.{is_closed}
 use Rattle.osdp_controller_laws.specs.Commands.{asked_in, command_of}
 use Rattle.osdp_controller_laws.proofs.Ticks.{takes_front}
@@ -9,7 +11,8 @@ use Rattle.osdp_time_laws.proofs.Orders.{lives}
 use Rattle.osdp_bus.specs.Machine.{entry_submits, entry_withdraws, submit_refusal_at}
 use Rattle.osdp_bus.specs.Ticking.{bus_ticks}
 use Rattle.osdp_bus_laws.proofs.Moments.{moments_are_seen}
-use Rattle.osdp_bus_time_laws.proofs.Asking.{polls_else, takes_the_front}
+use Rattle.osdp_bus_time_laws.proofs.Asking.{asks_the_front, polls_when}
+use Rattle.osdp_controller.specs.Sessions.{is_poll_next}
 use Rattle.osdp_bus_time_laws.proofs.Places.{AtPlace, Outcome, one_device, place_then, tick_place}
 use Rattle.osdp_bus_time_laws.proofs.Turning.{tick_of}
 
@@ -21,25 +24,31 @@ waiting_is entry b d there = ap (λ o. option_map_or (λ e. length e.controller.
 asked_is : (entry : ℕ) (b : BusState) (d : Entry) → device_of entry b ≡ Some d → asked_at entry b ≡ asked_in d.controller.session.state
 asked_is entry b d there = ap (λ o. option_map_or (λ e. asked_in e.controller.session.state) o None) there
 
--- it takes the order at the front, or is a POLL where none waits
+-- it takes the order at the front, or is a POLL where one has to come first or none waits
 pub record Takes (entry : ℕ) (call : Call) (b : BusState) : Type 0 where
   pub less : waiting_at entry (after_call call b) ≤ waiting_at entry b
   pub order : (command : Command) → asked_at entry (after_call call b) ≡ Some command → waiting_at entry (after_call call b) + 1 ≤ waiting_at entry b
 
 pub begun_takes : (entry : ℕ) (call : Call) (b : BusState) → IsUnderWay entry b → Begins call entry b → Takes entry call b
-begun_takes entry call b under begun = by_waiting under.device.controller.waiting refl
+begun_takes entry call b under begun = by_waiting (is_poll_next under.device.controller.session) refl under.device.controller.waiting refl
   where
     before : waiting_at entry b ≡ length under.device.controller.waiting
     before = waiting_is entry b under.device under.there
 
-    by_waiting : (w : List Command) → under.device.controller.waiting ≡ w → Takes entry call b
-    by_waiting [] none =
-        let poll = polls_else b call entry under.device under.there under.under_way none begun in
-        let none_left : waiting_at entry (after_call call b) ≡ 0 = waiting_is entry (after_call call b) poll.0 poll.1 ∙ ap length poll.3 in
+    polled : (next : Bool) (w : List Command) → is_poll_next under.device.controller.session ≡ next → under.device.controller.waiting ≡ w → (w ≡ []) ⊎ (next ≡ true)
+        → Takes entry call b
+    polled next w is waits why =
+        let poll = polls_when b call entry next w under.device under.there under.under_way is waits why begun in
+        let left : waiting_at entry (after_call call b) ≡ length w = waiting_is entry (after_call call b) poll.0 poll.1 ∙ ap length poll.3 in
+        let waited : waiting_at entry b ≡ length w = before ∙ ap length waits in
         let asks_none : asked_at entry (after_call call b) ≡ None = asked_is entry (after_call call b) poll.0 poll.1 ∙ ap command_of poll.2 in
         record { less = omega arith; order = λ command asks. (let both = sym asks ∙ asks_none in cc) }
-    by_waiting (command ∷ rest) some =
-        let order = takes_the_front b call entry command rest under.device under.there under.under_way some begun in
+
+    by_waiting : (next : Bool) → is_poll_next under.device.controller.session ≡ next → (w : List Command) → under.device.controller.waiting ≡ w → Takes entry call b
+    by_waiting true is w waits = polled true w is waits (inr refl)
+    by_waiting false is [] none = polled false [] is none (inl refl)
+    by_waiting false may (command ∷ rest) some =
+        let order = asks_the_front b call entry command rest under.device under.there under.under_way may some begun in
         let left : waiting_at entry (after_call call b) ≡ length rest = waiting_is entry (after_call call b) order.0 order.1 ∙ ap length order.3 in
         let waited : waiting_at entry b ≡ suc (length rest) = before ∙ ap length some in
         record { less = omega arith; order = λ asked asks. omega arith }
@@ -49,9 +58,13 @@ begun_takes entry call b under begun = by_waiting under.device.controller.waitin
 abbrev Most : ℕ → Entry → Type 0
 Most most d = length d.controller.waiting ≤ most
 
-most_withdrawn : (most : ℕ) (d : Entry) → Most most d → is_closed d.controller.session.state ≡ false → Most most (entry_withdraws d)
-most_withdrawn most d some stands =
-    subst (λ t. length (if t then drop 1 d.controller.waiting else d.controller.waiting) ≤ most) (sym stands) some
+most_left : (stays : Bool) (w : List Command) (most : ℕ) → length w ≤ most → length (if stays then w else drop 1 w) ≤ most
+most_left true w most some = some
+most_left false [] most some = some
+most_left false (c ∷ w) most some = let all : suc (length w) ≤ most = some in omega arith
+
+most_withdrawn : (most : ℕ) (d : Entry) → Most most d → Most most (entry_withdraws d)
+most_withdrawn most d some = most_left (is_some (on_its_way d.controller.session.state)) d.controller.waiting most some
 
 most_ticked : (most g : ℕ) (d : Entry) → holds d ≡ true → Most most d → Most most (entry_ticks g d)
 most_ticked most g d stands some =
@@ -102,7 +115,7 @@ module _ (entry : ℕ) (call : Call) (b : BusState) (well : Well b) (under : IsU
 
   by_duty : (t : Bool) → ends_duty call b ≡ t → AtPlace entry (Most most) (after_call call b).devices
   by_duty false other =
-      place_then g_then (Most most) (λ p d some. some) entry (most_withdrawn most) call b submitted other refl
+      place_then g_then (Most most) (λ p d some. some) entry call b submitted (λ at is same d there some. most_withdrawn most d some) other refl
       (λ d here. let one = one_device (device_of entry b) under.device d under.there here in
       subst (λ (k : Entry). is_closed k.controller.session.state ≡ false) one (lives under.device.controller.session.state under.under_way))
       placed

@@ -9,7 +9,7 @@ pub use Rattle.std.proofs.lemmas.List.Elements.{All-drop, All-head, All-nil, All
 pub use Rattle.osdp_msg.specs.declared.command.Command.{Command}
 pub use Rattle.osdp_controller.specs.declared.exchange.Exchange.{Exchange}
 pub use Rattle.osdp_controller.specs.declared.exchange.Exchange.TheVariants.{Asking, Opening, Polling}
-pub use Rattle.osdp_controller.specs.Exchanges.{submitted_command}
+pub use Rattle.osdp_controller.specs.Exchanges.{submitted_command, is_order}
 pub use Rattle.osdp_msg.specs.declared.limits.Room.{Room}
 pub use Rattle.osdp_msg.specs.CommandTable.{command_code, command_data}
 pub use Rattle.osdp_msg.specs.Kept.{command_kept}
@@ -29,8 +29,8 @@ pub use Rattle.osdp_controller.specs.declared.meaning.ReplyMeaning.TheVariants.{
 pub use Rattle.osdp_controller.specs.declared.exchange.Outstanding.{Outstanding}
 pub use Rattle.osdp_controller.specs.declared.state.State.{State}
 pub use Rattle.osdp_controller.specs.declared.state.State.TheVariants.{Closed, Idle, Pausing, Quiet, Waiting}
-pub use Rattle.osdp_controller.specs.Sessions.{after_send, later, new_session, seen}
-pub use Rattle.osdp_controller.specs.Ticking.{begins, begins as begins_exchange, gives_up, sends_frame, stays, Ticked, ticks_in, tries_again}
+pub use Rattle.osdp_controller.specs.Sessions.{after_send, is_poll_next, later, new_session, seen}
+pub use Rattle.osdp_controller.specs.Ticking.{asks_or_polls, begins, begins as begins_exchange, gives_up, idle_ticks, polls, sends_frame, stays, Ticked, ticks_in, tries_again}
 pub use Rattle.osdp_controller.specs.Hearing.{answered, answered_unread, com_of, command_answered, comset_of, Heard, hears, hears_busy, hears_in, ignores, is_from_reader, is_numbered, loses, moved_by, opening_answered, pausing_hears, pd_id_of, waiting_hears}
 pub use Rattle.osdp_controller.specs.Private.{after_act, frame_if, is_over, next_in, numbered_in, popped_if, submitted_if}
 pub use Rattle.osdp_controller.specs.Answers.{meaning_of}

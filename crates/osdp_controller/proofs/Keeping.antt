@@ -1,5 +1,5 @@
 -- What holds of a session at all times is kept by the rows of both tables.
-use Rattle.osdp_controller.proofs.Common.{◌≡◌, ℕ, ◌+◌, ◌*◌, ◌<◌, ◌≤◌, ◌&&◌, [], Option, Some, None, refl, arith, rules, IfSome, nat_lt, nat_le, ◌==◌, ltb-true, ltb-false, next_sequence, Command, Communication, Reply, PdId, ReplyMeaning, NotTaken, Damaged, NumberRefused, Plain, Unreadable, Exchange, Opening, Polling, Asking, Outstanding, Session, State, Closed, Quiet, Idle, Waiting, Pausing, submitted_command, after_send, later, seen, Ticked, begins, gives_up, sends_frame, stays, ticks_in, tries_again, Heard, answered, answered_unread, com_of, command_answered, comset_of, hears_busy, loses, moved_by, opening_answered, pausing_hears, pd_id_of, waiting_hears, numbered_in, IsOutstanding, IsSession, IsState, IsSubmitted, OpensAtZero}
+use Rattle.osdp_controller.proofs.Common.{◌≡◌, ℕ, ◌+◌, ◌*◌, ◌<◌, ◌≤◌, ◌&&◌, [], Option, Some, None, refl, arith, rules, IfSome, nat_lt, nat_le, ◌==◌, ltb-true, ltb-false, next_sequence, Command, Communication, Reply, PdId, ReplyMeaning, NotTaken, Damaged, NumberRefused, Plain, Unreadable, Exchange, Opening, Polling, Asking, Outstanding, Session, State, Closed, Quiet, Idle, Waiting, Pausing, submitted_command, is_order, is_poll_next, asks_or_polls, polls, after_send, later, seen, Ticked, begins, gives_up, sends_frame, stays, ticks_in, tries_again, Heard, answered, answered_unread, com_of, command_answered, comset_of, hears_busy, loses, moved_by, opening_answered, pausing_hears, pd_id_of, waiting_hears, numbered_in, IsOutstanding, IsSession, IsState, IsSubmitted, OpensAtZero}
 use Rattle.std.proofs.Math.Nat.{mul-add}
 use Rattle.osdp_controller.specs.declared.report.LostCause.TheVariants as causes
 use Rattle.osdp_controller.specs.Settings.{IsConfig}
@@ -21,7 +21,7 @@ pub keeps_begins : (x : Exchange) (number : ℕ) (s : Session) → IsConfig s.co
     → (x ≡ Opening → number ≡ 0) → IsSession (begins x number s []).session
 keeps_begins x number s config command opening =
     let some : 1 ≤ s.config.sends = config.sends.0 in
-    keeps_send 1 (record { exchange = x; busies = 0; sent = 0 }) (record s { number = number }) config (omega arith) some command (omega arith) (omega arith) opening
+    keeps_send 1 (record { exchange = x; busies = 0; sent = 0 }) (record s { number = number; asked = is_order x }) config (omega arith) some command (omega arith) (omega arith) opening
 
 keeps_try : (sends : ℕ) (o : Outstanding) (s : Session) → IsConfig s.config → 1 ≤ sends → sends ≤ s.config.sends → IsOutstanding s.config sends o
     → (o.exchange ≡ Opening → s.number ≡ 0) → IsSession (tries_again sends o s []).session
@@ -40,8 +40,9 @@ keeps_ticks (Quiet until) s same is opening =
     either_way (λ (t : Ticked). IsSession t.session) (nat_le until s.greatest) (begins Opening 0 s []) (stays s [])
     (λ h. keeps_begins Opening 0 s same.config tt (λ e. refl)) (λ h. same)
 keeps_ticks (Idle due) s same is opening =
-    either_way (λ (t : Ticked). IsSession t.session) (nat_le due s.greatest) (begins Polling (next_sequence s.number) s []) (stays s [])
-    (λ h. keeps_begins Polling (next_sequence s.number) s same.config tt (λ e. cc)) (λ h. same)
+    let polled = either_way (λ (t : Ticked). IsSession t.session) (nat_le due s.greatest) (begins Polling (next_sequence s.number) s []) (stays s [])
+    (λ h. keeps_begins Polling (next_sequence s.number) s same.config tt (λ e. cc)) (λ h. same) in
+    either_way (λ (t : Ticked). IsSession t.session) (is_poll_next s) (polls due s []) (asks_or_polls [] due s) (λ h. polled) (λ h. polled)
 keeps_ticks (Waiting until sends o) s same is opening =
     either_way (λ (t : Ticked). IsSession t.session) (nat_le until s.greatest) (tries_again sends o s []) (stays s [])
     (λ h. keeps_try sends o s same.config is.0 is.1 is.2 opening) (λ h. same)

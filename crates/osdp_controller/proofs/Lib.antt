@@ -2,6 +2,7 @@ pub mod Common
 pub mod Asking
 pub mod Choices
 pub mod Fitting
+pub mod Idling
 pub mod Keeping
 pub mod OnItsWay
 pub mod Over

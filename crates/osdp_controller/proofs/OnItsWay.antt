@@ -1,5 +1,5 @@
 -- The command that is on its way.
-use Rattle.osdp_controller.proofs.Common.{◌≡◌, ap, sym, subst, refl, ℕ, ◌+◌, true, false, List, [], Option, Some, None, IfSome, is_some, nat_le, nat_lt, Packet, next_sequence, command_kept, Command, Communication, Reply, PdId, Exchange, Opening, Polling, Asking, Outstanding, ReplyMeaning, NotTaken, Damaged, NumberRefused, Plain, Unreadable, Session, State, Closed, Quiet, Idle, Waiting, Pausing, meaning_of, submitted_command, Heard, answered, answered_unread, com_of, command_answered, comset_of, hears, hears_busy, hears_in, ignores, is_from_reader, is_numbered, loses, moved_by, opening_answered, pausing_hears, pd_id_of, waiting_hears, exchange_of, on_its_way, state_in, state_of, later, seen, is_over, Ticked, begins, gives_up, sends_frame, stays, ticks_in}
+use Rattle.osdp_controller.proofs.Common.{◌≡◌, ap, sym, subst, refl, ℕ, ◌+◌, true, false, List, [], Option, Some, None, IfSome, is_some, nat_le, nat_lt, Packet, next_sequence, command_kept, Command, Communication, Reply, PdId, Exchange, Opening, Polling, Asking, Outstanding, ReplyMeaning, NotTaken, Damaged, NumberRefused, Plain, Unreadable, Session, State, Closed, Quiet, Idle, Waiting, Pausing, meaning_of, submitted_command, Heard, answered, answered_unread, com_of, command_answered, comset_of, hears, hears_busy, hears_in, ignores, is_from_reader, is_numbered, loses, moved_by, opening_answered, pausing_hears, pd_id_of, waiting_hears, exchange_of, on_its_way, state_in, state_of, later, seen, is_over, is_poll_next, asks_or_polls, polls, Ticked, begins, gives_up, sends_frame, stays, ticks_in}
 use Rattle.osdp_controller.specs.declared.exchange.Asked.{Asked}
 use Rattle.osdp_controller.specs.declared.exchange.Asked.TheVariants as asked
 use Rattle.osdp_controller.specs.declared.report.LostCause.TheVariants as causes
@@ -151,7 +151,8 @@ pub ticks_ask : (state : State) (s : Session) → is_over state s ≡ false → 
 ticks_ask Closed s going same = same
 ticks_ask (Quiet until) s going same = either_way (Asks None) (nat_le until s.greatest) (begins Opening 0 s []) (stays s []) (λ b. refl) (λ b. same)
 ticks_ask (Idle due) s going same =
-    either_way (Asks None) (nat_le due s.greatest) (begins Polling (next_sequence s.number) s []) (stays s []) (λ b. refl) (λ b. same)
+    let polled = either_way (Asks None) (nat_le due s.greatest) (begins Polling (next_sequence s.number) s []) (stays s []) (λ b. refl) (λ b. same) in
+    either_way (Asks None) (is_poll_next s) (polls due s []) (asks_or_polls [] due s) (λ b. polled) (λ b. polled)
 ticks_ask (Waiting until sends o) s going same =
     not_second (Asks (submitted_command o.exchange)) (nat_le until s.greatest) (nat_lt sends s.config.sends)
     (sends_frame (sends + 1) o s []) (gives_up o s []) (stays s []) going refl same

@@ -1,10 +1,11 @@
 -- Commands that wait as their bytes, after the one that is on its way.
-use Rattle.osdp_controller.proofs.Common.{◌≡◌, ◌+◌, ◌-◌, ◌*◌, ◌≤◌, ◌<◌, ◌&&◌, not, Bool, true, false, ℕ, List, [], ◌∷◌, ◌++◌, length, map, drop, Option, Some, None, refl, sym, ap, ◌∙◌, subst, arith, length-append, All, option_map_or, IfSome, if◌then◌else◌, is_some, nat_le, nat_lt, le-leb, leb-true, lt-ltb, length-map, length-drop, All-drop, All-head, All-nil, All-push, All-tail, next_sequence, Command, Room, command_kept, most_data, Opening, Polling, Asking, Session, State, Closed, Quiet, Idle, Waiting, Pausing, IsCommand, on_its_way, state_in, is_closed, new_session, after_act, next_in, popped_if, submitted_if, Ticked, gives_up, sends_frame, stays, ticks_in, tries_again, begins_exchange, IsController, bytes_for, first_of, machine_of, session_of, waiting_in, AreSettings, IsSession, IsSubmitted, bytes_waiting, command_size, has_room}
+use Rattle.osdp_controller.proofs.Common.{◌≡◌, ◌+◌, ◌-◌, ◌*◌, ◌≤◌, ◌<◌, ◌&&◌, not, Bool, true, false, ℕ, List, [], ◌∷◌, ◌++◌, length, map, drop, Option, Some, None, refl, sym, ap, ◌∙◌, subst, arith, length-append, All, option_map_or, IfSome, if◌then◌else◌, is_some, nat_le, nat_lt, le-leb, leb-true, lt-ltb, length-map, length-drop, All-drop, All-head, All-nil, All-push, All-tail, next_sequence, Command, Room, command_kept, most_data, Opening, Polling, Asking, Session, State, Closed, Quiet, Idle, Waiting, Pausing, IsCommand, on_its_way, state_in, new_session, after_act, next_in, popped_if, submitted_if, Ticked, gives_up, sends_frame, stays, ticks_in, tries_again, begins_exchange, polls, asks_or_polls, is_poll_next, IsController, bytes_for, first_of, machine_of, session_of, waiting_in, AreSettings, IsSession, IsSubmitted, bytes_waiting, command_size, has_room}
 use Rattle.osdp_msg.specs.declared.command.Command.TheVariants.{Poll, Id, Cap, LocalStatus, InputStatus, OutputStatus, ReaderStatus, Output, Led, Buzzer, Text, Comset, Maker}
 use Rattle.osdp_msg.specs.CommandTable.{command_at, command_code, command_data, command_fault, command_of}
 use Rattle.osdp_controller.specs.declared.config.ControllerConfig.{ControllerConfig}
 use Rattle.osdp_controller.specs.declared.session.KeptSession.{KeptSession}
 use Rattle.osdp_controller.specs.Comsets.{has_comset, is_comset}
+use Rattle.osdp_controller.specs.Machine.{after_withdraw}
 use Rattle.osdp_controller.proofs.OnItsWay.{Follows, asked_before, follows_same, of_none, same_state, still_its_own}
 use Rattle.osdp_ring.specs.Ring.{Strings, begins, empty_ring, fits_in, has_first, popped, pushed_if, total}
 
@@ -168,15 +169,8 @@ poll_is = record { size = omega arith; spelled = refl }
 -- where no command is on its way it makes no difference
 pub other_first : (k : KeptSession) (a b : List ℕ) → is_some (on_its_way (state_in k.at a)) ≡ false → session_of k b ≡ session_of k a
 other_first k a b none =
-    ap (λ (state : State). record { config = k.config; state = state; number = k.number; greatest = k.greatest })
+    ap (λ (state : State). record { config = k.config; state = state; number = k.number; asked = k.asked; greatest = k.greatest })
     (same_state k.at a b (of_none (on_its_way (state_in k.at a)) (λ c. c ≡ command_kept b) none))
-
-pub none_of_closed : (state : State) → is_closed state ≡ true → is_some (on_its_way state) ≡ false
-none_of_closed Closed shut = refl
-none_of_closed (Quiet until) shut = cc
-none_of_closed (Idle due) shut = cc
-none_of_closed (Waiting until sends o) shut = cc
-none_of_closed (Pausing until o) shut = cc
 
 -- a new controller
 pub new_is : (k : KeptSession) (config : ControllerConfig) (q : Strings) (room : Room) → ((bytes : List ℕ) → session_of k bytes ≡ new_session config)
@@ -196,13 +190,19 @@ new_is k config q room is settings same =
       bytes = refl;
     }))
 
--- the first one leaves while the session is closed
-pub keeps_withdrawn : (k : KeptSession) (q : Strings) (room : Room) → is_closed (state_in k.at (first_of q.items)) ≡ true
+-- the first one leaves while none is on its way
+pub keeps_withdrawn : (k : KeptSession) (q : Strings) (room : Room) → is_some (on_its_way (state_in k.at (first_of q.items))) ≡ false
     → IsController (session_of k (first_of q.items)) q room → IsController (session_of k (first_of (popped q).items)) (popped q) room
-keeps_withdrawn k q room shut is =
-    let none = none_of_closed (state_in k.at (first_of q.items)) shut in
+keeps_withdrawn k q room none is =
     subst (λ (s : Session). IsController s (popped q) room) (sym (other_first k (first_of q.items) (first_of (popped q).items) none))
     (keeps_popped (session_of k (first_of q.items)) q room none is)
+
+pub withdrawn_machine : (k : KeptSession) (q : Strings) (room : Room) → is_some (on_its_way (state_in k.at (first_of q.items))) ≡ false
+    → machine_of (session_of k (first_of (popped q).items)) (popped q) room ≡ after_withdraw (machine_of (session_of k (first_of q.items)) q room)
+withdrawn_machine k q room none =
+    let s = session_of k (first_of q.items) in
+    ap (λ (t : Session). machine_of t (popped q) room) (other_first k (first_of q.items) (first_of (popped q).items) none)
+    ∙ rw none (ap (λ (w : List Command). record { session = s; waiting = w; capacity = room.messages; room = room.bytes }) (map_pop q.items))
 
 -- a command is put after the others
 by_first : (k : KeptSession) (items : List (List ℕ)) (bytes : List ℕ) → (is_some (on_its_way (state_in k.at (first_of items))) ≡ true → 1 ≤ length items)
@@ -305,23 +305,31 @@ module _ (old k : KeptSession) (first s : Session) (q r : Strings) (asked settle
 
 -- ---- the first of those that wait
 
-pub first_waits : (state : State) (items : List (List ℕ)) (bytes : List ℕ) → next_in state items ≡ Some bytes
+pub first_waits : (state : State) (poll_next : Bool) (items : List (List ℕ)) (bytes : List ℕ) → next_in state poll_next items ≡ Some bytes
     → (is_some (on_its_way state) ≡ false) × (first_of items ≡ bytes) × (1 ≤ length items)
-first_waits Closed items bytes e = cc
-first_waits (Quiet until) items bytes e = cc
-first_waits (Idle due) [] bytes e = cc
-first_waits (Idle due) (s ∷ ss) bytes e = (refl, (let same : s ≡ bytes = cc in same), omega arith)
-first_waits (Waiting until sends o) items bytes e = cc
-first_waits (Pausing until o) items bytes e = cc
+first_waits Closed poll_next items bytes e = cc
+first_waits (Quiet until) poll_next items bytes e = cc
+first_waits (Idle due) true items bytes e = cc
+first_waits (Idle due) false [] bytes e = cc
+first_waits (Idle due) false (s ∷ ss) bytes e = (refl, (let same : s ≡ bytes = cc in same), omega arith)
+first_waits (Waiting until sends o) poll_next items bytes e = cc
+first_waits (Pausing until o) poll_next items bytes e = cc
 
-pub begins_first : (state : State) (s : Session) (items : List (List ℕ)) (bytes : List ℕ) → next_in state items ≡ Some bytes
+-- .. by whether a POLL comes next
+idle_begins : (poll_next : Bool) (due : ℕ) (s : Session) (items : List (List ℕ)) (bytes : List ℕ) → next_in (Idle due) poll_next items ≡ Some bytes
+    → (if poll_next then polls due s (map command_kept items) else asks_or_polls (map command_kept items) due s)
+    ≡ begins_exchange (Asking (command_kept bytes)) (next_sequence s.number) s (map command_kept (drop 1 items))
+idle_begins true due s items bytes e = cc
+idle_begins false due s [] bytes e = cc
+idle_begins false due s (b ∷ items) bytes e =
+    let same : b ≡ bytes = cc in
+    ap (λ (x : List ℕ). begins_exchange (Asking (command_kept x)) (next_sequence s.number) s (map command_kept items)) same
+
+pub begins_first : (state : State) (s : Session) (items : List (List ℕ)) (bytes : List ℕ) → next_in state (is_poll_next s) items ≡ Some bytes
     → ticks_in state s (map command_kept (waiting_in state items)) ≡ begins_exchange (Asking (command_kept bytes)) (next_sequence s.number) s (map command_kept (drop 1 items))
 begins_first Closed s items bytes e = cc
 begins_first (Quiet until) s items bytes e = cc
-begins_first (Idle due) s [] bytes e = cc
-begins_first (Idle due) s (b ∷ items) bytes e =
-    let same : b ≡ bytes = cc in
-    ap (λ (x : List ℕ). begins_exchange (Asking (command_kept x)) (next_sequence s.number) s (map command_kept items)) same
+begins_first (Idle due) s items bytes e = idle_begins (is_poll_next s) due s items bytes e
 begins_first (Waiting until sends o) s items bytes e = cc
 begins_first (Pausing until o) s items bytes e = cc
 
@@ -330,17 +338,26 @@ branches : (b : Bool) (x y v z : Ticked) (w : List Command) → v ≡ record x {
 branches true x y v z w p q = p
 branches false x y v z w p q = q
 
+polls_leave : (due : ℕ) (s : Session) (w : List Command) → polls due s w ≡ record (polls due s []) { waiting = w }
+polls_leave due s w =
+    branches (nat_le due s.greatest) (begins_exchange Polling (next_sequence s.number) s []) (stays s [])
+    (begins_exchange Polling (next_sequence s.number) s w) (stays s w) w refl refl
+
+idle_leaves : (poll_next : Bool) (due : ℕ) (s : Session) (items : List (List ℕ)) → next_in (Idle due) poll_next items ≡ None
+    → let w = map command_kept items in
+    (if poll_next then polls due s w else asks_or_polls w due s) ≡ record (if poll_next then polls due s [] else asks_or_polls [] due s) { waiting = w }
+idle_leaves true due s items e = polls_leave due s (map command_kept items)
+idle_leaves false due s [] e = polls_leave due s []
+idle_leaves false due s (b ∷ items) e = cc
+
 -- where none begins, a tick leaves those that wait
-pub ticks_leave : (state : State) (s : Session) (items : List (List ℕ)) → next_in state items ≡ None
+pub ticks_leave : (state : State) (s : Session) (items : List (List ℕ)) → next_in state (is_poll_next s) items ≡ None
     → let w = map command_kept (waiting_in state items) in ticks_in state s w ≡ record (ticks_in state s []) { waiting = w }
 ticks_leave Closed s items e = refl
 ticks_leave (Quiet until) s items e =
     let w = map command_kept items in
     branches (nat_le until s.greatest) (begins_exchange Opening 0 s []) (stays s []) (begins_exchange Opening 0 s w) (stays s w) w refl refl
-ticks_leave (Idle due) s [] e =
-    branches (nat_le due s.greatest) (begins_exchange Polling (next_sequence s.number) s []) (stays s [])
-    (begins_exchange Polling (next_sequence s.number) s []) (stays s []) [] refl refl
-ticks_leave (Idle due) s (b ∷ items) e = cc
+ticks_leave (Idle due) s items e = idle_leaves (is_poll_next s) due s items e
 ticks_leave (Waiting until sends o) s items e =
     let w = map command_kept (waiting_in (Waiting until sends o) items) in
     branches (nat_le until s.greatest) (tries_again sends o s []) (stays s []) (tries_again sends o s w) (stays s w) w
@@ -350,11 +367,11 @@ ticks_leave (Pausing until o) s items e =
     branches (nat_le until s.greatest) (sends_frame 1 o s []) (stays s []) (sends_frame 1 o s w) (stays s w) w refl refl
 
 -- the command of the first one is on its way
-pub keeps_beginning : (old k : KeptSession) (s : Session) (q : Strings) (room : Room) (bytes : List ℕ) → next_in (state_in old.at (first_of q.items)) q.items ≡ Some bytes
+pub keeps_beginning : (old k : KeptSession) (s : Session) (q : Strings) (room : Room) (bytes : List ℕ) (poll_next : Bool) → next_in (state_in old.at (first_of q.items)) poll_next q.items ≡ Some bytes
     → on_its_way s.state ≡ Some (command_kept bytes) → IsKept k s → IsSession s → IsController (session_of old (first_of q.items)) q room
     → IsController (session_of k (first_of q.items)) q room
-keeps_beginning old k s q room bytes next asks kept session is =
-    let first = first_waits (state_in old.at (first_of q.items)) q.items bytes next in
+keeps_beginning old k s q room bytes poll_next next asks kept session is =
+    let first = first_waits (state_in old.at (first_of q.items)) poll_next q.items bytes next in
     let own = subst (λ (o : Option Command). IfSome o (λ c. c ≡ command_kept (first_of q.items))) (sym asks) (ap command_kept (sym first.1)) in
     subst (λ (t : Session). IsController t q room) (sym (kept (first_of q.items) own))
     (keeps_begun (session_of old (first_of q.items)) s q room first.0 first.2 (ap (λ (o : Option Command). is_some o) asks) session is)
@@ -369,7 +386,7 @@ module _ (old k : KeptSession) (s : Session) (q : Strings) (asks : on_its_way s.
       subst (λ (t : Session). IsController t q room) (sym session_ticked)
       (keeps_session (session_of old (first_of q.items)) s q room (ap (λ (o : Option Command). is_some o) asks) session is)
 
-  pub machine_ticked : (room : Room) → let first = session_of old (first_of q.items) in next_in first.state q.items ≡ None → s ≡ (ticks_in first.state first []).session
+  pub machine_ticked : (room : Room) → let first = session_of old (first_of q.items) in next_in first.state (is_poll_next first) q.items ≡ None → s ≡ (ticks_in first.state first []).session
       → machine_of (session_of k (first_of q.items)) q room ≡ after_act (machine_of first q room)
   machine_ticked room none is =
       let first = session_of old (first_of q.items) in

@@ -1,5 +1,5 @@
 -- Exchanges: the command of each, and the numbers that they go by.
-use Rattle.std.specs.Prelude.{ℕ, zero, suc, ◌+◌, ◌%◌, List, ◌∷◌, Option, Some, None}
+use Rattle.std.specs.Prelude.{ℕ, zero, suc, ◌+◌, ◌%◌, Bool, List, ◌∷◌, Option, Some, None, is_some}
 use Rattle.osdp_msg.specs.declared.command.Command.{Command}
 use Rattle.osdp_msg.specs.declared.command.Command.TheVariants.{Poll, Id}
 use Rattle.osdp_msg.specs.CommandTable.{command_code, command_data}
@@ -21,6 +21,10 @@ abbrev pub submitted_command : Exchange → Option Command
 submitted_command Opening = None
 submitted_command Polling = None
 submitted_command (Asking command) = Some command
+
+-- a submitted command is asked, and no opening ID or POLL
+abbrev pub is_order : Exchange → Bool
+is_order x = is_some (submitted_command x)
 
 -- the sequence number of the exchanges of a session, counted from 0: the opening has 0, and those after it
 -- take 1, 2 and 3 in turn

@@ -14,3 +14,4 @@ pub mod Private
 pub mod Machine
 pub mod Causes
 pub mod Waiting
+pub mod Orders

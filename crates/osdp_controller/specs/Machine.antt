@@ -18,7 +18,6 @@ use Rattle.osdp_controller.specs.Exchanges.{submitted_command}
 use Rattle.osdp_controller.specs.Held.{on_its_way}
 use Rattle.osdp_controller.specs.Settings.{IsConfig}
 use Rattle.osdp_controller.specs.Sessions.{later, new_session, seen}
-use Rattle.osdp_controller.specs.States.{is_closed}
 use Rattle.osdp_controller.specs.Ticking.{Step, ticks}
 use Rattle.osdp_controller.specs.Hearing.{hears}
 
@@ -95,12 +94,12 @@ submit_refusal command m = if has_room command m then None else Some Full
 abbrev pub after_submit : Command → Machine → Machine
 after_submit command m = record m { waiting = m.waiting ++ command ∷ [] }
 
--- withdrawing: in a controller that is closed the command that has waited longest leaves and comes back; else nothing happens
+-- withdrawing: where no command is on its way, the one that has waited longest leaves and comes back; else nothing happens
 abbrev pub withdrawn_in : State → List Command → Option Command
-withdrawn_in state waiting = if is_closed state then slice_get waiting 0 else None
+withdrawn_in state waiting = if is_some (on_its_way state) then None else slice_get waiting 0
 
 abbrev pub kept_in : State → List Command → List Command
-kept_in state waiting = if is_closed state then drop 1 waiting else waiting
+kept_in state waiting = if is_some (on_its_way state) then waiting else drop 1 waiting
 
 abbrev pub after_withdraw : Machine → Machine
 after_withdraw m = record m { waiting = kept_in m.session.state m.waiting }

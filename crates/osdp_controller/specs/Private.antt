@@ -29,9 +29,9 @@ abbrev pub is_over : State → Session → Bool
 is_over (Waiting until sends o) s = nat_le until s.greatest && not (nat_lt sends s.config.sends)
 is_over _ s = false
 
--- what a tick in a state takes from what waits: the command, or its bytes
-abbrev pub next_in : {A : Type 0} → State → List A → Option A
-next_in state waiting = if is_idle state then slice_get waiting 0 else None
+-- what a tick in a state takes from what waits, unless a POLL comes next: the command, or its bytes
+abbrev pub next_in : {A : Type 0} → State → Bool → List A → Option A
+next_in state poll_next waiting = if is_idle state && not poll_next then slice_get waiting 0 else None
 
 -- the first string leaves, where that is asked
 abbrev pub popped_if : Bool → Strings → Strings

@@ -1,5 +1,5 @@
 -- What is kept of a session, and what one event makes of it. The moment of an event is the greatest one seen.
-use Rattle.std.specs.Prelude.{ℕ, ◌+◌, ◌-◌, ◌^◌, false, min, max}
+use Rattle.std.specs.Prelude.{ℕ, ◌+◌, ◌-◌, ◌^◌, Bool, false, ◌&&◌, min, max}
 use Rattle.osdp_frame.specs.Packet.{Packet}
 use Rattle.osdp_frame.specs.Packed.{packed}
 use Rattle.osdp_controller.specs.declared.config.ControllerConfig.{ControllerConfig}
@@ -14,11 +14,15 @@ use Rattle.osdp_controller.specs.Exchanges.{exchange_body, submitted_command}
 
 -- no session yet
 abbrev pub new_session : ControllerConfig → Session
-new_session config = record { config = config; state = Closed; number = 0; greatest = 0 }
+new_session config = record { config = config; state = Closed; number = 0; asked = false; greatest = 0 }
 
 -- a moment that lies before the greatest seen counts as that one
 abbrev pub seen : ℕ → Session → Session
 seen now s = record s { greatest = max s.greatest now }
+
+-- where a POLL stands between any two orders, the next exchange is one if the last was an order
+abbrev pub is_poll_next : Session → Bool
+is_poll_next s = s.config.poll_between_orders && s.asked
 
 -- so much later than the moment, and the last moment that there is where it would lie after that
 abbrev pub later : ℕ → Session → ℕ

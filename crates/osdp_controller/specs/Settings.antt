@@ -1,5 +1,5 @@
 -- The settings of a controller.
-use Rattle.std.specs.Prelude.{ℕ, ◌<◌, ◌≤◌}
+use Rattle.std.specs.Prelude.{ℕ, ◌<◌, ◌≤◌, false}
 use Rattle.osdp_frame.specs.declared.check_kind.CheckKind.{CheckKind}
 use Rattle.osdp_frame.specs.Times.{IsTime}
 use Rattle.osdp_controller.specs.declared.config.ControllerConfig.{ControllerConfig}
@@ -17,4 +17,4 @@ pub record IsConfig (c : ControllerConfig) : Type 0 where
 
 abbrev pub default_config : ℕ → CheckKind → ControllerConfig
 default_config address check =
-    record { address = address; check = check; reply_wait = 200; poll_interval = 50; sends = 3; busy_wait = 50; busy_limit = 20; quiet_wait = 400 }
+    record { address = address; check = check; reply_wait = 200; poll_interval = 50; sends = 3; busy_wait = 50; busy_limit = 20; quiet_wait = 400; poll_between_orders = false }

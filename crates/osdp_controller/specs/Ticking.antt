@@ -10,7 +10,8 @@ use Rattle.osdp_controller.specs.declared.report.Report.{Report}
 use Rattle.osdp_controller.specs.declared.session.Session.{Session}
 use Rattle.osdp_controller.specs.declared.state.State.{State}
 use Rattle.osdp_controller.specs.declared.state.State.TheVariants.{Closed, Quiet, Idle, Waiting, Pausing}
-use Rattle.osdp_controller.specs.Sessions.{after_send, closed, frame_of, lost, seen}
+use Rattle.osdp_controller.specs.Exchanges.{is_order}
+use Rattle.osdp_controller.specs.Sessions.{after_send, closed, frame_of, is_poll_next, lost, seen}
 
 -- what is sent now, and what is told now: by a tick only that the session has ended; it never does both
 pub record Step : Type 0 where
@@ -38,7 +39,7 @@ sends_frame sends o s waiting = record {
 -- a new exchange begins, with this number
 abbrev pub begins : Exchange → ℕ → Session → List Command → Ticked
 begins x number s waiting =
-    sends_frame 1 (record { exchange = x; busies = 0; sent = 0 }) (record s { number = number }) waiting
+    sends_frame 1 (record { exchange = x; busies = 0; sent = 0 }) (record s { number = number; asked = is_order x }) waiting
 
 -- the session ends; its command is told, and the waiting ones stay
 abbrev pub gives_up : Outstanding → Session → List Command → Ticked
@@ -48,11 +49,19 @@ gives_up o s waiting = record {
   step = record { frame = None; report = Some (lost NoReply o) };
 }
 
--- no exchange is outstanding: the front of the waiting commands, else a POLL once it is due
+-- a POLL, once it is due; what waits stays
+abbrev pub polls : ℕ → Session → List Command → Ticked
+polls due s waiting =
+    if nat_le due s.greatest then begins Polling (next_sequence s.number) s waiting else stays s waiting
+
+-- .. or the front of the waiting commands, where there is one
+abbrev pub asks_or_polls : List Command → ℕ → Session → Ticked
+asks_or_polls (command ∷ rest) due s = begins (Asking command) (next_sequence s.number) s rest
+asks_or_polls [] due s = polls due s []
+
+-- no exchange is outstanding: a command that waits goes before a POLL, unless a POLL has to come first
 abbrev pub idle_ticks : List Command → ℕ → Session → Ticked
-idle_ticks (command ∷ rest) due s = begins (Asking command) (next_sequence s.number) s rest
-idle_ticks [] due s =
-    if nat_le due s.greatest then begins Polling (next_sequence s.number) s [] else stays s []
+idle_ticks waiting due s = if is_poll_next s then polls due s waiting else asks_or_polls waiting due s
 
 -- the wait for an answer is over: the same frame again, or the end
 abbrev pub tries_again : ℕ → Outstanding → Session → List Command → Ticked

@@ -13,7 +13,7 @@ use Rattle.osdp_controller.specs.Machine.{IsMachine, Machine}
 
 -- the session that is kept, with the bytes of the command that stands first
 abbrev pub session_of : KeptSession → List ℕ → Session
-session_of k bytes = record { config = k.config; state = state_in k.at bytes; number = k.number; greatest = k.greatest }
+session_of k bytes = record { config = k.config; state = state_in k.at bytes; number = k.number; asked = k.asked; greatest = k.greatest }
 
 -- what stands first; a POLL where nothing does
 abbrev pub first_of : List (List ℕ) → List ℕ

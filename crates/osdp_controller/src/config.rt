@@ -27,6 +27,8 @@ pub struct ControllerConfig {
     pub busy_limit: u8,
     /// How long the line is left quiet before a session opens.
     pub quiet_wait: u32,
+    /// Whether a POLL stands between any two orders, so that orders that come as fast as they go keep no event waiting without end.
+    pub poll_between_orders: bool,
 }
 
 impl ControllerConfig {
@@ -35,7 +37,7 @@ impl ControllerConfig {
 
     /// The default times: an answer is waited for 200 ms and a frame sent three times; a POLL follows 50 ms
     /// after an answer, a send 50 ms after a BUSY, of which 20 are allowed; a session opens after 400 ms
-    /// of quiet.
+    /// of quiet, and orders go out one after the other.
     pub fn new(address: Address, check: CheckKind) -> ControllerConfig
         ensures { result ≡ default_config address check }
     {
@@ -48,6 +50,7 @@ impl ControllerConfig {
             busy_wait: 50,
             busy_limit: 20,
             quiet_wait: 400,
+            poll_between_orders: false,
         }
     }
 

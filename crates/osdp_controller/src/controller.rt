@@ -1,9 +1,11 @@
 //! The controller: a session and the commands that wait for it.
 
+ghost use Rattle.osdp_controller.specs.Sessions.{is_poll_next};
 ghost use Rattle.osdp_controller.specs.Private.{after_act, frame_if, is_over, next_in, popped_if, submitted_if};
 ghost use Rattle.osdp_controller.specs.declared.report.LostCause.TheVariants.{NoReply};
 ghost use Rattle.osdp_controller.specs.Commands.{IsCommand};
 ghost use Rattle.osdp_controller.specs.Held.{outstanding_in};
+ghost use Rattle.osdp_controller.specs.Orders.{asked_in, orders_in};
 ghost use Rattle.osdp_controller.specs.Sessions.{closed, lost};
 ghost use Rattle.osdp_controller.specs.Ticking.{stays, ticks_in};
 ghost use Rattle.osdp_controller.specs.Waiting.{bytes_for, first_of};
@@ -12,6 +14,7 @@ ghost use Rattle.std.specs.Prelude.{◌≡◌, ◌*◌, ◌+◌, ◌≤◌, All,
 ghost use Rattle.std.specs.Option.{option_copied};
 
 use crate::config::ControllerConfig;
+use crate::exchange::Asked;
 use crate::fault::ControllerFault;
 use crate::kept::KeptReport;
 use crate::session::{KeptSession, Session};
@@ -121,6 +124,20 @@ impl Controller {
         }
     }
 
+    /// What the exchange that waits for its answer asks. None where none does.
+    pub fn asked(&self) -> Option<Asked>
+        ensures { result ≡ asked_in self.now.session.state }
+    {
+        self.session().state.asked()
+    }
+
+    /// How many orders have no end yet: the one that is on its way, and those that wait.
+    pub fn orders(&self) -> usize
+        ensures { result ≡ orders_in self.now }
+    {
+        self.queue.len()
+    }
+
     /// Puts a command after those that wait. It is accepted in every state.
     ///
     /// PollSubmitted (C4) for a POLL; else Full (C3) where as many wait as there is room for, or their bytes and those of the
@@ -185,15 +202,22 @@ impl Controller {
         }
     }
 
-    /// The command that may be withdrawn: the one that has waited longest. None where none waits, and unless the controller
-    /// is closed: a session that has begun asks its commands in their order.
+    /// The command that may be withdrawn: the one that has waited longest. None where none waits, and while a command is on its
+    /// way: it was sent, and waits for its answer.
     pub fn withdrawable(&self) -> Option<Command<'_>>
         ensures { result ≡ withdrawn_in self.now.session.state self.now.waiting }
     {
-        if !self.is_closed() {
+        if self.session().state.asks_command() {
             return None;
         }
         Some(Command::kept(self.queue.front()?))
+    }
+
+    /// Whether there is one.
+    pub fn may_withdraw(&self) -> bool
+        ensures { result ≡ is_some (withdrawn_in self.now.session.state self.now.waiting) }
+    {
+        !self.session().state.asks_command() && self.queue.len() != 0
     }
 
     /// Takes back that command: it won't be sent. Whether there was one; else nothing changes.
@@ -201,7 +225,7 @@ impl Controller {
         ensures command { result ≡ is_some (withdrawn_in self.old.session.state self.old.waiting) }
         ensures machine { self.new ≡ after_withdraw self.old }
     {
-        if !self.is_closed() {
+        if self.session().state.asks_command() {
             return false;
         }
         let some = 1 <= self.queue.len();
@@ -299,7 +323,7 @@ impl Controller {
         ensures { result ≡ true → ticks_in self.now.session.state self.now.session self.now.waiting ≡ stays self.now.session self.now.waiting }
     {
         let session = self.session();
-        !session.is_reached() && (self.queue.len() == 0 || !session.state.is_idle())
+        !session.is_reached() && (self.queue.len() == 0 || !session.may_ask())
     }
 
     /// Does what is due at the greatest moment seen, where the session goes on, and puts the packet that goes out into `out`. Whether one
@@ -325,7 +349,7 @@ impl Controller {
         ensures held { result ≡ true → is_outstanding self.new.session.state ≡ true }
     {
         let mut session = self.kept.with(first_of(&self.queue));
-        match next_command(&session.state, &self.queue) {
+        match next_command(&session, &self.queue) {
             Some(command) => {
                 session.begin_command(command);
                 self.kept = session.keep();
@@ -370,7 +394,7 @@ impl Controller {
         ensures { IsDeadline self.now result }
     {
         let session = self.session();
-        if session.state.is_idle() && self.queue.len() != 0 {
+        if session.may_ask() && self.queue.len() != 0 {
             return Some(session.greatest);
         }
         let moment = session.moment()?;
@@ -412,11 +436,11 @@ fn pop_if(settled: bool, queue: &mut Ring)
     }
 }
 
-/// The bytes of the first of the waiting commands, where the session is open and nothing is outstanding.
-fn next_command<'a>(state: &Held<'_>, queue: &'a Ring) -> Option<&'a [u8]>
-    ensures { option_copied result ≡ next_in state.now queue.now.items }
+/// The bytes of the first of the waiting commands, where the session is open, nothing is outstanding and no POLL has to come first.
+fn next_command<'a>(session: &Session<'_>, queue: &'a Ring) -> Option<&'a [u8]>
+    ensures { option_copied result ≡ next_in session.now.state (is_poll_next session.now) queue.now.items }
 {
-    if !state.is_idle() {
+    if !session.may_ask() {
         return None;
     }
     queue.front()

@@ -22,6 +22,7 @@ mod ticking;
 
 pub use config::ControllerConfig;
 pub use controller::Controller;
+pub use exchange::Asked;
 pub use fault::ControllerFault;
 pub use kept::KeptReport;
 pub use report::{LostCause, Report};

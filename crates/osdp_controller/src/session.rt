@@ -8,7 +8,8 @@ ghost use Rattle.osdp_controller.specs.Commands.{IsCommand};
 ghost use Rattle.osdp_controller.specs.Held.{on_its_way, outstanding_in};
 ghost use Rattle.osdp_controller.specs.Machine.{begun, is_outstanding};
 ghost use Rattle.osdp_controller.specs.Private.{frame_in};
-ghost use Rattle.osdp_controller.specs.Sessions.{after_send, at_rest, later, new_session, seen};
+ghost use Rattle.osdp_controller.specs.Sessions.{after_send, at_rest, is_poll_next, later, new_session, seen};
+ghost use Rattle.osdp_controller.specs.States.{is_idle};
 ghost use Rattle.osdp_controller.specs.Waiting.{session_of};
 
 use crate::config::ControllerConfig;
@@ -26,6 +27,8 @@ pub struct Session<'a> {
     pub state: Held<'a>,
     /// The sequence number of the latest exchange.
     pub number: Seq,
+    /// Whether that exchange asked an order.
+    pub asked: bool,
     /// The greatest moment seen, in milliseconds.
     pub greatest: u64,
 }
@@ -39,6 +42,8 @@ pub struct KeptSession {
     pub at: Progress,
     /// The sequence number of the latest exchange.
     pub number: Seq,
+    /// Whether that exchange asked an order.
+    pub asked: bool,
     /// The greatest moment seen, in milliseconds.
     pub greatest: u64,
 }
@@ -52,6 +57,7 @@ impl KeptSession {
             config,
             at: Progress::closed(),
             number: first_number(),
+            asked: false,
             greatest: 0,
         }
     }
@@ -75,6 +81,7 @@ impl KeptSession {
                 command,
             },
             number: self.number,
+            asked: self.asked,
             greatest: self.greatest,
         }
     }
@@ -90,6 +97,7 @@ impl<'a> Session<'a> {
             config: self.config,
             at: self.state.at,
             number: self.number,
+            asked: self.asked,
             greatest: self.greatest,
         }
     }
@@ -106,6 +114,13 @@ impl<'a> Session<'a> {
         ensures { self.new ≡ seen now self.old }
     {
         self.greatest = self.greatest.max(now);
+    }
+
+    /// Whether a command that waits may be asked: the session is open, nothing is outstanding, and no POLL has to come first.
+    pub(crate) fn may_ask(&self) -> bool
+        ensures { result ≡ (is_idle self.now.state && not (is_poll_next self.now)) }
+    {
+        self.state.is_idle() && !(self.config.poll_between_orders && self.asked)
     }
 
     /// So much later than now, and the last moment that there is where it would lie after that.

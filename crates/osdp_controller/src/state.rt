@@ -12,6 +12,7 @@ ghost use Rattle.osdp_msg.specs.declared.command.Command.TheVariants.{Poll};
 ghost use Rattle.std.specs.Option.{option_map};
 ghost use Rattle.osdp_controller.specs.Held.{exchange_of, on_its_way, outstanding_in, sends_in, stage_of, state_in};
 ghost use Rattle.osdp_controller.specs.Machine.{is_outstanding};
+ghost use Rattle.osdp_controller.specs.Orders.{asked_in};
 ghost use Rattle.osdp_controller.specs.States.{is_closed, is_idle, moment_of};
 
 use crate::exchange::{Asked, Outstanding};
@@ -233,6 +234,16 @@ impl<'a> Held<'a> {
     {
         matches!(self.at.stage, Stage::Waiting | Stage::Pausing)
             && matches!(self.at.asked, Asked::Submitted)
+    }
+
+    /// What the outstanding exchange asks, if one is.
+    pub(crate) fn asked(&self) -> Option<Asked>
+        ensures { result ≡ asked_in self.now }
+    {
+        match self.at.stage {
+            Stage::Closed | Stage::Quiet | Stage::Idle => None,
+            Stage::Waiting | Stage::Pausing => Some(self.at.asked),
+        }
     }
 
     /// The code and the data of the command that was submitted for the outstanding exchange, if one was.

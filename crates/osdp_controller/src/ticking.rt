@@ -31,6 +31,7 @@ impl<'a> Session<'a> {
         ensures { self.new ≡ (begins (exchange_of asked Poll) number self.old []).session }
     {
         self.number = number;
+        self.asked = false;
         let until = self.later(self.config.reply_wait);
         self.state.begin(asked, until);
     }
@@ -51,6 +52,7 @@ impl<'a> Session<'a> {
         ensures kept { IsSession self.new }
     {
         self.number = self.next_number();
+        self.asked = true;
         let until = self.later(self.config.reply_wait);
         self.state.begin_command(command, until);
     }

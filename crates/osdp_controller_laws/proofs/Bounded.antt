@@ -1,9 +1,10 @@
 -- How many frames an exchange sends.
-use Rattle.osdp_controller_laws.proofs.Common.{◌≡◌, sym, subst, ℕ, ◌+◌, ◌*◌, ◌≤◌, Bool, true, false, List, [], ◌∷◌, ◌++◌, length, Option, Some, None, refl, arith, if◌then◌else◌, All, nat_lt, nat_le, option_to_list, All-head, Packet, next_sequence, Command, ControllerConfig, Opening, Asking, Outstanding, Session, State, Closed, Quiet, Idle, Waiting, Pausing, meaning_of, Heard, hears, IsMachine, IsOutstanding, IsSession, IsState, IsSubmitted, Machine, OpensAtZero, after_begin, after_retarget, is_outstanding, sent_in, submit_refusal, Call, Submit, Begin, Retarget, Withdraw, Tick, Hear, Lasts, SendsFew, after_call, frames, sent_by, seen, Ticked, begins, gives_up, sends_frame, stays, ticks_in, tries_again, keeps_begins, keeps_numbered, keeps_seen, keeps_ticks}
+use Rattle.osdp_controller_laws.proofs.Common.{◌≡◌, sym, subst, ℕ, ◌+◌, ◌*◌, ◌≤◌, Bool, true, false, List, [], ◌∷◌, ◌++◌, length, Option, Some, None, refl, arith, if◌then◌else◌, All, nat_lt, nat_le, option_to_list, All-head, Packet, next_sequence, Command, ControllerConfig, Opening, Polling, Asking, Outstanding, Session, State, Closed, Quiet, Idle, Waiting, Pausing, meaning_of, Heard, hears, IsMachine, IsOutstanding, IsSession, IsState, IsSubmitted, Machine, OpensAtZero, after_begin, after_retarget, is_outstanding, sent_in, submit_refusal, Call, Submit, Begin, Retarget, Withdraw, Tick, Hear, Lasts, SendsFew, after_call, frames, sent_by, seen, Ticked, begins, gives_up, sends_frame, stays, ticks_in, tries_again, keeps_begins, keeps_numbered, keeps_seen, keeps_ticks}
 use Rattle.std.proofs.lemmas.Nat.{mul-le}
 use Rattle.std.proofs.Math.Nat.{mul-add}
 use Rattle.osdp_controller_laws.proofs.Frames.{either_frame}
 use Rattle.osdp_controller_laws.proofs.Lasting.{Holds, HoldsMachine, first_sent, holds_call, more, not_begun, not_moved, submit_session}
+use Rattle.osdp_controller.proofs.Idling.{idle_way}
 
 -- what holds of a session is kept, whatever waits
 
@@ -18,9 +19,9 @@ keeps_tick Closed s w same is opening all = same
 keeps_tick (Quiet until) s w same is opening all =
     subst IsSession (same_session (nat_le until s.greatest) (begins Opening 0 s []) (stays s []) (begins Opening 0 s w) (stays s w) refl refl)
     (keeps_ticks (Quiet until) s same is opening)
-keeps_tick (Idle due) s (command ∷ w) same is opening all =
-    keeps_begins (Asking command) (next_sequence s.number) s same.config (All-head IsSubmitted command w all) (λ e. cc)
-keeps_tick (Idle due) s [] same is opening all = keeps_ticks (Idle due) s same is opening
+keeps_tick (Idle due) s w same is opening all =
+    idle_way (λ (t : Ticked). IsSession t.session) due s w (λ b. keeps_begins Polling (next_sequence s.number) s same.config tt (λ e. cc)) (λ b. same)
+    (λ command rest e. keeps_begins (Asking command) (next_sequence s.number) s same.config (let each = rw e at all in All-head IsSubmitted command rest each) (λ e. cc))
 keeps_tick (Waiting until sends o) s w same is opening all =
     subst IsSession (same_session (nat_le until s.greatest) (tries_again sends o s []) (stays s []) (tries_again sends o s w) (stays s w)
     (same_session (nat_lt sends s.config.sends) (sends_frame (sends + 1) o s []) (gives_up o s []) (sends_frame (sends + 1) o s w) (gives_up o s w) refl refl) refl)

@@ -31,6 +31,7 @@ pub use Rattle.osdp_controller.specs.declared.report.Report.TheVariants.{Event, 
 pub use Rattle.osdp_controller.specs.Private.{numbered_in}
 pub use Rattle.osdp_controller_laws.specs.Laws.{Comes, ComesNumbered, CountsSends, exchange_in, HearsAnswers, IsFromReader, KeepsTime, NumbersTakeTurns, TakesFront, TellsLost, TellsWhy, WhyTold}
 pub use Rattle.osdp_controller.proofs.Choices.{either_way, first_true}
+pub use Rattle.osdp_controller.specs.Held.{on_its_way}
 pub use Rattle.osdp_controller.specs.States.{is_closed, is_idle, moment_of}
 pub use Rattle.osdp_controller_laws.specs.Commands.{accepted, accepted_by, asked, asked_by, asked_in, command_of, CommandsByPlace, GoesOn, IsAnswered, IsGivenUp, left, tells_end, TellsEnds, told, told_command, withdrawn, withdrawn_by}
 pub use Rattle.osdp_controller.specs.Exchanges.{exchange_command, submitted_command}

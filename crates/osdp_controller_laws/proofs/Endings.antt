@@ -2,6 +2,7 @@
 use Rattle.osdp_controller_laws.proofs.Common.{◌≡◌, ap, subst, inl, inr, ℕ, ◌+◌, Bool, true, false, ◌||◌, List, [], ◌∷◌, Option, Some, None, refl, nat_lt, nat_le, ◌⊎◌, Packet, next_sequence, Command, Communication, EventOfReader, Reply, PdId, ReplyMeaning, NotTaken, Damaged, NumberRefused, Plain, Unreadable, Exchange, Opening, Polling, Asking, Outstanding, Report, PollAnswered, Lost, Session, State, Closed, Quiet, Idle, Waiting, Pausing, meaning_of, GoesOn, IsAnswered, IsGivenUp, TellsEnds, tells_end, told_command, submitted_command, event_in, Heard, answered, answered_unread, com_of, command_answered, comset_of, hears, hears_busy, ignores, is_ack, loses, moved_by, opening_answered, pausing_hears, pd_id_of, poll_told, waiting_hears, numbered_in, exchange_in, later, seen, is_closed, Ticked, begins, gives_up, sends_frame, stays, ticks_in, tries_again, either_way}
 use Rattle.osdp_controller.specs.declared.report.LostCause.TheVariants as causes
 use Rattle.osdp_controller_laws.proofs.Frames.{either_frame}
+use Rattle.osdp_controller.proofs.Idling.{idle_way}
 
 -- ticks
 
@@ -100,9 +101,7 @@ tick_closes : (state : State) (s : Session) (w : List Command) → is_closed s.s
 tick_closes Closed s w same = same
 tick_closes (Quiet until) s w same =
     either_way (TickCloses (Quiet until)) (nat_le until s.greatest) (begins Opening 0 s w) (stays s w) (λ b. refl) (λ b. same)
-tick_closes (Idle due) s (command ∷ w) same = refl
-tick_closes (Idle due) s [] same =
-    either_way (TickCloses (Idle due)) (nat_le due s.greatest) (begins Polling (next_sequence s.number) s []) (stays s []) (λ b. refl) (λ b. same)
+tick_closes (Idle due) s w same = idle_way (TickCloses (Idle due)) due s w (λ b. refl) (λ b. same) (λ command rest e. refl)
 tick_closes (Waiting until sends o) s w same =
     either_way (TickCloses (Waiting until sends o)) (nat_le until s.greatest) (tries_again sends o s w) (stays s w)
     (λ b. either_way (TickCloses (Waiting until sends o)) (nat_lt sends s.config.sends) (sends_frame (sends + 1) o s w) (gives_up o s w) (λ c. refl) (λ c. refl))

@@ -1,9 +1,10 @@
 -- Each accepted command is asked and told once, by its place.
-use Rattle.osdp_controller_laws.proofs.Common.{◌≡◌, ◌∙◌, ap, sym, subst, inl, inr, ℕ, ◌+◌, ◌≤◌, Bool, true, false, List, [], ◌∷◌, ◌++◌, Option, Some, None, refl, arith, append_assoc, append-nil, ne_eqb, Packet, next_sequence, Command, ControllerConfig, Exchange, Opening, Polling, Outstanding, ControllerFault, Report, Session, State, Closed, Quiet, Idle, Waiting, Pausing, CommandsByPlace, GoesOn, IsAnswered, accepted, accepted_by, asked, asked_by, asked_in, command_of, left, told, told_command, withdrawn, withdrawn_by, submitted_command, Heard, hears, exchange_in, IsMachine, IsState, Machine, after_begin, after_retarget, after_submit, changed_unless, is_outstanding, refused_unless_closed, retarget_refusal, sent_in, submit_refusal, Call, Submit, Begin, Retarget, Withdraw, Tick, Hear, after_call, after_calls, told_by, seen, is_closed, Ticked, begins, gives_up, sends_frame, stays, ticks_in, tries_again, either_way}
+use Rattle.osdp_controller_laws.proofs.Common.{◌≡◌, ◌∙◌, ap, sym, subst, inl, inr, ℕ, ◌+◌, ◌≤◌, Bool, true, false, List, [], ◌∷◌, ◌++◌, Option, Some, None, refl, arith, append_assoc, append-nil, ne_eqb, Packet, next_sequence, Command, ControllerConfig, Exchange, Opening, Polling, Outstanding, ControllerFault, Report, Session, State, Closed, Quiet, Idle, Waiting, Pausing, CommandsByPlace, GoesOn, IsAnswered, accepted, accepted_by, asked, asked_by, asked_in, command_of, left, told, told_command, withdrawn, withdrawn_by, submitted_command, Heard, hears, exchange_in, IsMachine, IsState, Machine, after_begin, after_retarget, after_submit, changed_unless, is_outstanding, refused_unless_closed, retarget_refusal, sent_in, submit_refusal, Call, Submit, Begin, Retarget, Withdraw, Tick, Hear, after_call, after_calls, told_by, seen, is_some, on_its_way, Ticked, begins, gives_up, sends_frame, stays, ticks_in, tries_again, either_way}
 use Rattle.std.specs.Prelude.{if◌then◌else◌, ◌&&◌, ◌==◌, nat_lt, nat_le, is_none, is_some, option_to_list, drop, slice_get, ◌⊎◌}
 use Rattle.osdp_controller_laws.proofs.Endings.{frame_ends}
 use Rattle.osdp_controller_laws.proofs.Stepwise.{frames_in_steps}
 use Rattle.osdp_controller_laws.proofs.Well.{keeps_each}
+use Rattle.osdp_controller.proofs.Idling.{idle_way}
 
 abbrev listed : Option Command → List Command
 listed o = option_to_list o
@@ -47,10 +48,9 @@ tick_by_place c Closed s w is same = nothing_new None (asked_in s.state) w same
 tick_by_place c (Quiet until) s w is same =
     either_way (TickByPlace None w) (nat_le until s.greatest) (begins Opening 0 s w) (stays s w)
     (λ b. nothing_new None None w refl) (λ b. nothing_new None (asked_in s.state) w same)
-tick_by_place c (Idle due) s (command ∷ w) is same = record { waits = sym (append-nil (command ∷ w)); tells = refl }
-tick_by_place c (Idle due) s [] is same =
-    either_way (TickByPlace None []) (nat_le due s.greatest) (begins Polling (next_sequence s.number) s []) (stays s [])
-    (λ b. nothing_new None None [] refl) (λ b. nothing_new None (asked_in s.state) [] same)
+tick_by_place c (Idle due) s w is same =
+    idle_way (TickByPlace None w) due s w (λ b. nothing_new None None w refl) (λ b. nothing_new None (asked_in s.state) w same)
+    (λ command rest e. rw e (record { waits = sym (append-nil (command ∷ rest)); tells = refl }))
 tick_by_place c (Waiting until sends o) s w is same =
     either_way (TickByPlace (submitted_command o.exchange) w) (nat_le until s.greatest) (tries_again sends o s w) (stays s w)
     (λ b. either_way (TickByPlace (submitted_command o.exchange) w) (nat_lt sends s.config.sends) (sends_frame (sends + 1) o s w) (gives_up o s w)
@@ -107,10 +107,10 @@ retarget_by_place None address m = nothing_new (asked_in m.session.state) (asked
 retarget_by_place (Some fault) address m = nothing_new (asked_in m.session.state) (asked_in m.session.state) m.waiting refl
 
 withdraw_by_place : (b : Bool) (before : Option Command) (w : List Command)
-    → OneByPlace before w None None (if b then slice_get w 0 else None) None before (if b then drop 1 w else w)
-withdraw_by_place true before [] = nothing_new before before [] refl
-withdraw_by_place true before (command ∷ w) = record { waits = sym (append-nil (command ∷ w)); tells = append-nil (listed before) }
-withdraw_by_place false before w = nothing_new before before w refl
+    → OneByPlace before w None None (if b then None else slice_get w 0) None before (if b then w else drop 1 w)
+withdraw_by_place true before w = nothing_new before before w refl
+withdraw_by_place false before [] = nothing_new before before [] refl
+withdraw_by_place false before (command ∷ w) = record { waits = sym (append-nil (command ∷ w)); tells = append-nil (listed before) }
 
 -- each call
 
@@ -123,7 +123,7 @@ call_by_place : (call : Call) (m : Machine) → IsMachine m → CallByPlace call
 call_by_place (Submit command) m is = submit_by_place (submit_refusal command m) command m
 call_by_place (Begin now) m is = begin_by_place now m.session.state m refl
 call_by_place (Retarget address) m is = retarget_by_place (retarget_refusal address m) address m
-call_by_place Withdraw m is = withdraw_by_place (is_closed m.session.state) (asked_in m.session.state) m.waiting
+call_by_place Withdraw m is = withdraw_by_place (is_some (on_its_way m.session.state)) (asked_in m.session.state) m.waiting
 call_by_place (Tick now) m is = tick_by_place m.session.config m.session.state (seen now m.session) m.waiting is.session.state refl
 call_by_place (Hear p now) m is = record { waits = sym (append-nil m.waiting); tells = frame_tells (exchange_in m.session.state) p now m.session refl }
 

@@ -6,6 +6,8 @@ use Rattle.osdp_frame.specs.Check.{check_size}
 use Rattle.osdp_controller_laws.proofs.Frames.{OfEach, either_frame, of_pause, of_wait}
 use Rattle.osdp_controller_laws.proofs.Stepwise.{sends_its_frame}
 use Rattle.osdp_controller_laws.proofs.Well.{keeps_each}
+use Rattle.osdp_controller.proofs.Idling.{idle_way}
+use Rattle.std.proofs.lemmas.Bool.{leb-false}
 
 -- by the state: the number, the moment that is waited for, and the number of an exchange that isn't the opening
 abbrev Near : State → ℕ → ℕ → Type 0
@@ -102,11 +104,10 @@ tick_near Closed s w near same = same
 tick_near (Quiet until) s w near same =
     either_way TickNear (nat_le until s.greatest) (begins Opening 0 s w) (stays s w)
     (λ b. begins_near Opening 0 s w (omega arith) (λ other. absurd (other refl))) (λ b. same)
-tick_near (Idle due) s (command ∷ w) near same =
-    begins_near (Asking command) (next_sequence s.number) s w (next_below s.number) (λ other. next_above s.number)
-tick_near (Idle due) s [] near same =
-    either_way TickNear (nat_le due s.greatest) (begins Polling (next_sequence s.number) s []) (stays s [])
-    (λ b. begins_near Polling (next_sequence s.number) s [] (next_below s.number) (λ other. next_above s.number)) (λ b. same)
+tick_near (Idle due) s w near same =
+    idle_way TickNear due s w
+    (λ b. begins_near Polling (next_sequence s.number) s w (next_below s.number) (λ other. next_above s.number)) (λ b. same)
+    (λ command rest e. begins_near (Asking command) (next_sequence s.number) s rest (next_below s.number) (λ other. next_above s.number))
 tick_near (Waiting until sends o) s w near same =
     either_way TickNear (nat_le until s.greatest) (tries_again sends o s w) (stays s w)
     (λ b. either_way TickNear (nat_lt sends s.config.sends) (sends_frame (sends + 1) o s w) (gives_up o s w)
@@ -198,9 +199,8 @@ due_by : (state : State) (s : Session) (w : List Command) (limit : ℕ) → stat
     → Acts (ticks_in state s w)
 due_by Closed s w limit unended late near = absurd (unended refl)
 due_by (Quiet until) s w limit unended late near = reached until s (begins Opening 0 s w) (stays s w) (omega (arith, near.1)) refl
-due_by (Idle due) s [] limit unended late near =
-    reached due s (begins Polling (next_sequence s.number) s []) (stays s []) (omega (arith, near.1)) refl
-due_by (Idle due) s (command ∷ w) limit unended late near = refl
+due_by (Idle due) s w limit unended late near =
+    idle_way Acts due s w (λ b. refl) (λ b. absurd (let below = leb-false due s.greatest b in let by = near.1 in omega (arith, below, by, late))) (λ command rest e. refl)
 due_by (Waiting until sends o) s w limit unended late near =
     reached until s (tries_again sends o s w) (stays s w) (omega (arith, near.1))
     (either_way Acts (nat_lt sends s.config.sends) (sends_frame (sends + 1) o s w) (gives_up o s w) (λ b. refl) (λ b. refl))

@@ -3,6 +3,7 @@ use Rattle.std.proofs.Common.{◌≡◌, ℕ, ◌+◌, ◌<◌, List, [], ◌∷
 use Rattle.osdp_controller_laws.proofs.Common.{IfSome, nat_lt, nat_le, Packet, next_sequence, Command, Communication, EventOfReader, Reply, PdId, ReplyMeaning, NotTaken, Damaged, NumberRefused, Plain, Unreadable, ControllerConfig, Exchange, Opening, Polling, Asking, Outstanding, Report, Opened, Settled, Moved, Event, PollAnswered, Unread, Session, State, Closed, Quiet, Idle, Waiting, Pausing, meaning_of, event_in, Heard, answered, answered_unread, com_of, command_answered, comset_of, hears, hears_busy, is_ack, loses, moved_by, opening_answered, pausing_hears, pd_id_of, poll_told, waiting_hears, numbered_in, later, lost, seen, Ticked, begins, gives_up, sends_frame, stays, ticks_in, tries_again, either_way, moved_to_device, told_address}
 use Rattle.osdp_controller.specs.declared.report.LostCause.TheVariants as causes
 use Rattle.osdp_controller_laws.proofs.Frames.{either_frame}
+use Rattle.osdp_controller.proofs.Idling.{idle_way}
 
 module _ (P : Option Report → ℕ → ControllerConfig → Type 0) where
   -- it holds of a report, and of what is kept then
@@ -19,10 +20,8 @@ module _ (P : Option Report → ℕ → ControllerConfig → Type 0) where
   tick_keeps Closed s w all = all.same None refl
   tick_keeps (Quiet until) s w all =
       either_way TickKeeps (nat_le until s.greatest) (begins Opening 0 s w) (stays s w) (λ b. all.same None refl) (λ b. all.same None refl)
-  tick_keeps (Idle due) s (command ∷ w) all = all.same None refl
-  tick_keeps (Idle due) s [] all =
-      either_way TickKeeps (nat_le due s.greatest) (begins Polling (next_sequence s.number) s []) (stays s []) (λ b. all.same None refl)
-      (λ b. all.same None refl)
+  tick_keeps (Idle due) s w all =
+      idle_way TickKeeps due s w (λ b. all.same None refl) (λ b. all.same None refl) (λ command rest e. all.same None refl)
   tick_keeps (Waiting until sends o) s w all =
       either_way TickKeeps (nat_le until s.greatest) (tries_again sends o s w) (stays s w)
       (λ b. either_way TickKeeps (nat_lt sends s.config.sends) (sends_frame (sends + 1) o s w) (gives_up o s w)

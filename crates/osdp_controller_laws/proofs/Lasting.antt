@@ -1,6 +1,7 @@
 -- The frames of an exchange as long as it lasts.
 use Rattle.osdp_controller_laws.proofs.Common.{◌≡◌, ap, sym, subst, ℕ, ◌+◌, ◌≤◌, true, List, [], ◌∷◌, ◌++◌, Option, Some, None, refl, arith, All, nat_lt, nat_le, option_to_list, All-nil, All-cons, Packet, next_sequence, Command, ReplyMeaning, ControllerConfig, Opening, Polling, ControllerFault, Session, State, Closed, Quiet, Idle, Waiting, Pausing, meaning_of, Heard, hears, numbered_in, Machine, after_begin, after_retarget, after_submit, changed_unless, is_outstanding, or_no_device, refused_unless_closed, sent_in, submit_refusal, Call, Submit, Begin, Retarget, Withdraw, Tick, Hear, Lasts, ResendsTheSame, after_call, frames, sent_by, frame_of, seen, Ticked, begins, gives_up, sends_frame, stays, ticks_in, tries_again, either_way}
 use Rattle.osdp_controller_laws.proofs.Frames.{OfEach, either_frame, of_pause, of_wait}
+use Rattle.osdp_controller.proofs.Idling.{idle_way}
 
 -- where an exchange is outstanding: this is its packet, it has sent so many frames, and the settings are these
 abbrev pub Holds : Packet → ControllerConfig → ℕ → State → Session → Type 0
@@ -112,10 +113,8 @@ holds_first : (state : State) (s : Session) (w : List Command) → HoldsFirst s.
 holds_first Closed s w = tt
 holds_first (Quiet until) s w =
     either_way (HoldsFirst s.config) (nat_le until s.greatest) (begins Opening 0 s w) (stays s w) (λ b. ((refl, refl, refl), omega arith)) (λ b. tt)
-holds_first (Idle due) s (command ∷ w) = ((refl, refl, refl), omega arith)
-holds_first (Idle due) s [] =
-    either_way (HoldsFirst s.config) (nat_le due s.greatest) (begins Polling (next_sequence s.number) s []) (stays s [])
-    (λ b. ((refl, refl, refl), omega arith)) (λ b. tt)
+holds_first (Idle due) s w =
+    idle_way (HoldsFirst s.config) due s w (λ b. ((refl, refl, refl), omega arith)) (λ b. tt) (λ command rest e. ((refl, refl, refl), omega arith))
 holds_first (Waiting until sends o) s w =
     either_way (HoldsFirst s.config) (nat_le until s.greatest) (tries_again sends o s w) (stays s w)
     (λ b. either_way (HoldsFirst s.config) (nat_lt sends s.config.sends) (sends_frame (sends + 1) o s w) (gives_up o s w)

@@ -2,6 +2,7 @@
 use Rattle.osdp_controller_laws.proofs.Common.{◌≡◌, ap, sym, ℕ, ◌+◌, true, false, List, [], ◌∷◌, Option, Some, None, refl, if◌then◌else◌, nat_lt, nat_le, is_none, is_some, Packet, next_sequence, Command, ControllerConfig, Opening, Polling, ControllerFault, Report, Session, State, Closed, Quiet, Idle, Waiting, Pausing, BeginsWithFrame, KeepsSettings, WaitsUntilDue, told_address, Heard, hears, Machine, acts, after_begin, after_retarget, after_submit, changed_unless, is_outstanding, refused_unless_closed, retarget_refusal, submit_refusal, Call, Submit, Begin, Retarget, Withdraw, Tick, Hear, seen, Ticked, begins, gives_up, sends_frame, stays, ticks_in, tries_again, either_way}
 use Rattle.osdp_controller_laws.proofs.Kept.{HoldsOfKept, frame_keeps, tick_keeps}
 use Rattle.osdp_controller_laws.proofs.Stepwise.{frames_in_steps}
+use Rattle.osdp_controller.proofs.Idling.{idle_way}
 
 -- an exchange begins
 
@@ -11,9 +12,7 @@ TickBegins state t = is_outstanding state ≡ false → is_outstanding t.session
 tick_begins : (state : State) (s : Session) (w : List Command) → is_outstanding s.state ≡ is_outstanding state → TickBegins state (ticks_in state s w)
 tick_begins (Quiet until) s w same =
     either_way (TickBegins (Quiet until)) (nat_le until s.greatest) (begins Opening 0 s w) (stays s w) (λ b h k. refl) (λ b h k. cc)
-tick_begins (Idle due) s (command ∷ w) same = λ h k. refl
-tick_begins (Idle due) s [] same =
-    either_way (TickBegins (Idle due)) (nat_le due s.greatest) (begins Polling (next_sequence s.number) s []) (stays s []) (λ b h k. refl) (λ b h k. cc)
+tick_begins (Idle due) s w same = idle_way (TickBegins (Idle due)) due s w (λ b h k. refl) (λ b h k. cc) (λ command rest e h k. refl)
 tick_begins _ s w same = λ h k. cc
 
 abbrev StaysIdle : Machine → Machine → Type 0
@@ -55,9 +54,7 @@ still_stays : (state : State) (s : Session) (w : List Command) → StillStays s 
 still_stays Closed s w = λ h. refl
 still_stays (Quiet until) s w =
     either_way (StillStays s w) (nat_le until s.greatest) (begins Opening 0 s w) (stays s w) (λ b h. cc) (λ b h. refl)
-still_stays (Idle due) s (command ∷ w) = λ h. cc
-still_stays (Idle due) s [] =
-    either_way (StillStays s []) (nat_le due s.greatest) (begins Polling (next_sequence s.number) s []) (stays s []) (λ b h. cc) (λ b h. refl)
+still_stays (Idle due) s w = idle_way (StillStays s w) due s w (λ b h. cc) (λ b h. refl) (λ command rest e h. cc)
 still_stays (Waiting until sends o) s w =
     either_way (StillStays s w) (nat_le until s.greatest) (tries_again sends o s w) (stays s w)
     (λ b. either_way (StillStays s w) (nat_lt sends s.config.sends) (sends_frame (sends + 1) o s w) (gives_up o s w) (λ c h. cc) (λ c h. cc))

@@ -3,6 +3,7 @@ use Rattle.osdp_controller_laws.proofs.Common.{◌≡◌, ◌∙◌, ap, subst, 
 use Rattle.std.specs.Prelude.{if◌then◌else◌, ◌&&◌, ◌==◌, nat_lt, nat_le, is_some}
 use Rattle.osdp_controller_laws.proofs.Frames.{OfEach, either_frame, of_pause, of_wait}
 use Rattle.osdp_controller_laws.proofs.Ticks.{numbers_turn}
+use Rattle.osdp_controller.proofs.Idling.{idle_way}
 
 -- by the state: the latest of so many exchanges has this number, and an outstanding one has sent a frame
 abbrev Placed : ℕ → State → ℕ → Type 0
@@ -38,10 +39,8 @@ placed_ticks count Closed s w at same = same
 placed_ticks count (Quiet until) s w at same =
     either_way (PlacedAfter count) (nat_le until s.greatest) (begins Opening 0 s w) (stays s w)
     (λ b. (omega arith, (0, (let e : count ≡ 0 = at in omega arith), refl))) (λ b. same)
-placed_ticks count (Idle due) s (command ∷ w) at same = (omega arith, next_place count s.number at)
-placed_ticks count (Idle due) s [] at same =
-    either_way (PlacedAfter count) (nat_le due s.greatest) (begins Polling (next_sequence s.number) s []) (stays s [])
-    (λ b. (omega arith, next_place count s.number at)) (λ b. same)
+placed_ticks count (Idle due) s w at same =
+    idle_way (PlacedAfter count) due s w (λ b. (omega arith, next_place count s.number at)) (λ b. same) (λ command rest e. (omega arith, next_place count s.number at))
 placed_ticks count (Waiting until sends o) s w at same =
     either_way (PlacedAfter count) (nat_le until s.greatest) (tries_again sends o s w) (stays s w)
     (λ b. either_way (PlacedAfter count) (nat_lt sends s.config.sends) (sends_frame (sends + 1) o s w) (gives_up o s w)
@@ -123,9 +122,7 @@ SendsAs t = SentAs t t.step.frame
 sends_as : (state : State) (s : Session) (w : List Command) → SendsAs (ticks_in state s w)
 sends_as Closed s w = tt
 sends_as (Quiet until) s w = either_way SendsAs (nat_le until s.greatest) (begins Opening 0 s w) (stays s w) (λ b. (refl, refl)) (λ b. tt)
-sends_as (Idle due) s (command ∷ w) = (refl, refl)
-sends_as (Idle due) s [] =
-    either_way SendsAs (nat_le due s.greatest) (begins Polling (next_sequence s.number) s []) (stays s []) (λ b. (refl, refl)) (λ b. tt)
+sends_as (Idle due) s w = idle_way SendsAs due s w (λ b. (refl, refl)) (λ b. tt) (λ command rest e. (refl, refl))
 sends_as (Waiting until sends o) s w =
     either_way SendsAs (nat_le until s.greatest) (tries_again sends o s w) (stays s w)
     (λ b. either_way SendsAs (nat_lt sends s.config.sends) (sends_frame (sends + 1) o s w) (gives_up o s w) (λ c. (refl, refl)) (λ c. tt))

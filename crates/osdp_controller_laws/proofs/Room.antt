@@ -1,10 +1,10 @@
 -- What each call leaves of the commands that wait, and of the room for them.
-use Rattle.osdp_controller_laws.proofs.Common.{◌≡◌, ◌∙◌, ap, sym, subst, ◌≤◌, ◌<◌, ◌+◌, ◌-◌, ◌*◌, ◌&&◌, ltb, leb, ℕ, Bool, true, false, List, [], ◌∷◌, ◌++◌, length, Option, Some, None, refl, arith, IfSome, if◌then◌else◌, All, drop, nat_le, nat_lt, le-leb, leb-false, leb-true, lt-leb, ltb-true, All-head, All-nil, All-push, All-tail, next_sequence, CommandFits, command_code, command_data, Command, Poll, command_laws, ControllerConfig, Opening, Polling, ControllerFault, Session, State, Closed, Quiet, Idle, Waiting, Pausing, Machine, after_begin, after_retarget, after_submit, begin_refusal, bytes_kept, bytes_on_its_way, bytes_waiting, changed_unless, command_size, has_room, new_machine, refused_unless_closed, retarget_refusal, submit_refusal, submitted_command, hears, seen, is_closed, Ticked, begins, gives_up, sends_frame, stays, ticks_in, tries_again, either_way, asked_in, Call, Submit, Begin, Retarget, Withdraw, Tick, Hear, after_call, after_calls}
+use Rattle.osdp_controller_laws.proofs.Common.{◌≡◌, ◌∙◌, ap, sym, subst, ◌≤◌, ◌<◌, ◌+◌, ◌-◌, ◌*◌, ◌&&◌, ltb, leb, ℕ, Bool, true, false, List, [], ◌∷◌, ◌++◌, length, Option, Some, None, refl, arith, IfSome, if◌then◌else◌, All, drop, nat_le, nat_lt, le-leb, leb-false, leb-true, lt-leb, ltb-true, All-head, All-nil, All-push, All-tail, next_sequence, CommandFits, command_code, command_data, Command, Poll, command_laws, ControllerConfig, Opening, Polling, ControllerFault, Session, State, Closed, Quiet, Idle, Waiting, Pausing, Machine, after_begin, after_retarget, after_submit, begin_refusal, bytes_kept, bytes_on_its_way, bytes_waiting, changed_unless, command_size, has_room, new_machine, refused_unless_closed, retarget_refusal, submit_refusal, submitted_command, hears, seen, is_some, on_its_way, Ticked, begins, gives_up, sends_frame, stays, ticks_in, tries_again, either_way, asked_in, Call, Submit, Begin, Retarget, Withdraw, Tick, Hear, after_call, after_calls}
 use Rattle.std.specs.Option.{option_map_or}
 use Rattle.osdp_msg.specs.Limits.{most_data}
-use Rattle.osdp_controller.specs.Held.{on_its_way}
 use Rattle.osdp_controller.proofs.OnItsWay.{hears_follows}
 use Rattle.osdp_controller_laws.specs.Room.{HasRoom, RefusesForItsBytes, RefusesForItsPlace, StaysInRoom, SubmitsFitting, bytes_asked}
+use Rattle.osdp_controller.proofs.Idling.{idle_way}
 
 -- ---- what waits: what a command that has room and a front that leaves keep
 
@@ -30,20 +30,19 @@ module _ (P : List Command → ℕ → ℕ → Type 0) (Fits : Command → Type 
   unless_refused None m n is changed = changed refl
   unless_refused (Some fault) m n is changed = is
 
-  withdraw_holds : (b : Bool) (w : List Command) (capacity room : ℕ) → IsKeptByQueue → P w capacity room → P (if b then drop 1 w else w) capacity room
-  withdraw_holds true [] capacity room kept is = is
-  withdraw_holds true (command ∷ w) capacity room kept is = kept.leaves command w capacity room is
-  withdraw_holds false w capacity room kept is = is
+  withdraw_holds : (b : Bool) (w : List Command) (capacity room : ℕ) → IsKeptByQueue → P w capacity room → P (if b then w else drop 1 w) capacity room
+  withdraw_holds true w capacity room kept is = is
+  withdraw_holds false [] capacity room kept is = is
+  withdraw_holds false (command ∷ w) capacity room kept is = kept.leaves command w capacity room is
 
   tick_holds : (state : State) (s : Session) (w : List Command) (capacity room : ℕ) → IsKeptByQueue → P w capacity room
       → P (ticks_in state s w).waiting capacity room
   tick_holds Closed s w capacity room kept is = is
   tick_holds (Quiet until) s w capacity room kept is =
       either_way (λ (t : Ticked). P t.waiting capacity room) (nat_le until s.greatest) (begins Opening 0 s w) (stays s w) (λ b. is) (λ b. is)
-  tick_holds (Idle due) s (command ∷ w) capacity room kept is = kept.leaves command w capacity room is
-  tick_holds (Idle due) s [] capacity room kept is =
-      either_way (λ (t : Ticked). P t.waiting capacity room) (nat_le due s.greatest) (begins Polling (next_sequence s.number) s []) (stays s [])
-      (λ b. is) (λ b. is)
+  tick_holds (Idle due) s w capacity room kept is =
+      idle_way (λ (t : Ticked). P t.waiting capacity room) due s w (λ b. is) (λ b. is)
+      (λ command rest e. kept.leaves command rest capacity room (subst (λ (l : List Command). P l capacity room) e is))
   tick_holds (Waiting until sends o) s w capacity room kept is =
       either_way (λ (t : Ticked). P t.waiting capacity room) (nat_le until s.greatest) (tries_again sends o s w) (stays s w)
       (λ b. either_way (λ (t : Ticked). P t.waiting capacity room) (nat_lt sends s.config.sends) (sends_frame (sends + 1) o s w) (gives_up o s w)
@@ -63,7 +62,7 @@ module _ (P : List Command → ℕ → ℕ → Type 0) (Fits : Command → Type 
       (λ free. kept.joins command m fits (finds_room command m free) is)
   call_holds (Begin now) m kept fits is = unless_refused (begin_refusal m) m (after_begin now m) is (λ free. is)
   call_holds (Retarget address) m kept fits is = unless_refused (retarget_refusal address m) m (after_retarget address m) is (λ free. is)
-  call_holds Withdraw m kept fits is = withdraw_holds (is_closed m.session.state) m.waiting m.capacity m.room kept is
+  call_holds Withdraw m kept fits is = withdraw_holds (is_some (on_its_way m.session.state)) m.waiting m.capacity m.room kept is
   call_holds (Tick now) m kept fits is =
       tick_holds m.session.state (seen now m.session) m.waiting m.capacity m.room kept is
   call_holds (Hear p now) m kept fits is = is
@@ -96,10 +95,10 @@ begins_first : (ample : Bool) (c : Command) (w : List Command) (room : ℕ) → 
 begins_first true c w room is = omega (arith, is)
 begins_first false c w room is = omega (arith, is)
 
-leaves_first : (ample shut : Bool) (o : Option Command) (w : List Command) (room : ℕ) → Within ample o w room → Within ample o (if shut then drop 1 w else w) room
-leaves_first ample true o [] room is = is
-leaves_first ample true o (c ∷ w) room is = omega (arith, is)
-leaves_first ample false o w room is = is
+leaves_first : (ample stays : Bool) (o : Option Command) (w : List Command) (room : ℕ) → Within ample o w room → Within ample o (if stays then w else drop 1 w) room
+leaves_first ample true o w room is = is
+leaves_first ample false o [] room is = is
+leaves_first ample false o (c ∷ w) room is = omega (arith, is)
 
 follows_within : (ample : Bool) (o p : Option Command) (w : List Command) (room : ℕ) → IfSome o (λ c. p ≡ Some c) → Within ample p w room → Within ample o w room
 follows_within ample None p w room follows is = settles ample p w room is
@@ -114,10 +113,9 @@ tick_within ample Closed s w room same is = subst (λ (o : Option Command). With
 tick_within ample (Quiet until) s w room same is =
     either_way (TickedWithin ample room) (nat_le until s.greatest) (begins Opening 0 s w) (stays s w) (λ b. is)
     (λ b. subst (λ (o : Option Command). Within ample o w room) (sym same) is)
-tick_within ample (Idle due) s (c ∷ w) room same is = begins_first ample c w room is
-tick_within ample (Idle due) s [] room same is =
-    either_way (TickedWithin ample room) (nat_le due s.greatest) (begins Polling (next_sequence s.number) s []) (stays s []) (λ b. is)
-    (λ b. subst (λ (o : Option Command). Within ample o [] room) (sym same) is)
+tick_within ample (Idle due) s w room same is =
+    idle_way (TickedWithin ample room) due s w (λ b. is) (λ b. subst (λ (o : Option Command). Within ample o w room) (sym same) is)
+    (λ command rest e. begins_first ample command rest room (subst (λ (l : List Command). Within ample None l room) e is))
 tick_within ample (Waiting until sends o) s w room same is =
     either_way (TickedWithin ample room) (nat_le until s.greatest) (tries_again sends o s w) (stays s w)
     (λ b. either_way (TickedWithin ample room) (nat_lt sends s.config.sends) (sends_frame (sends + 1) o s w) (gives_up o s w)
@@ -153,7 +151,7 @@ call_keeps (Submit command) m is =
 call_keeps (Begin now) m is = begin_keeps now m.session.state m refl is
 call_keeps (Retarget address) m is = either_keeps (retarget_refusal address m) m (after_retarget address m) is (λ free. is)
 call_keeps Withdraw m is =
-    leaves_first (nat_le (m.capacity * (1 + most_data)) m.room) (is_closed m.session.state) (on_its_way m.session.state) m.waiting m.room is
+    leaves_first (nat_le (m.capacity * (1 + most_data)) m.room) (is_some (on_its_way m.session.state)) (on_its_way m.session.state) m.waiting m.room is
 call_keeps (Tick now) m is =
     tick_within (nat_le (m.capacity * (1 + most_data)) m.room) m.session.state (seen now m.session) m.waiting m.room refl is
 call_keeps (Hear p now) m is =

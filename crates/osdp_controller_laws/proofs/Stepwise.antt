@@ -4,6 +4,10 @@ use Rattle.std.specs.Prelude.{◌≢◌, ◌⊎◌, ◌&&◌, ◌||◌, ◌==◌
 use Rattle.osdp_controller_laws.specs.Steps.{Exchanged, ExchangesInSteps, FramesInSteps, IsAheadAt, IsReachedAt, IsReplyTo, SendsItsFrame, TicksInSteps, moved_away}
 use Rattle.osdp_controller_laws.proofs.Causes.{hears_answers, is_reader, of_reader}
 use Rattle.osdp_controller_laws.proofs.Frames.{by_number, by_tests}
+use Rattle.osdp_controller.proofs.Idling.{asks_front, idle_way, polls_alone, polls_first}
+use Rattle.osdp_controller.specs.Exchanges.{is_order}
+use Rattle.osdp_controller.specs.Sessions.{is_poll_next}
+use Rattle.osdp_controller.specs.Ticking.{idle_ticks, polls}
 
 if_true : {A : Type 0} (b : Bool) (x y : A) → b ≡ true → (if b then x else y) ≡ x
 if_true true x y h = refl
@@ -24,20 +28,24 @@ reached deadline now s x y h = if_true (nat_le deadline (max s.greatest now)) x 
 ahead : (deadline now : ℕ) (s : Session) (x y : Ticked) → IsAheadAt deadline now s → (if nat_le deadline (max s.greatest now) then x else y) ≡ y
 ahead deadline now s x y h = if_false (nat_le deadline (max s.greatest now)) x y (lt-leb deadline (max s.greatest now) h)
 
+-- a POLL comes next: none waits, or one has to come first
+pub may_wait : (due : ℕ) (s : Session) (w : List Command) → (w ≡ []) ⊎ (is_poll_next s ≡ true) → idle_ticks w due s ≡ polls due s w
+may_wait due s w (inl none) = rw none (polls_alone due s)
+may_wait due s w (inr next) = polls_first due s w next
+
 pub ticks_in_steps : (now : ℕ) (s : Session) (w : List Command) → TicksInSteps now s w
 ticks_in_steps now s w = record {
   closed = λ e. by_state now s w Closed e;
   quiet = λ until e h. by_state now s w (Quiet until) e ∙ ahead until now s (begins Opening 0 (seen now s) w) (stays (seen now s) w) h;
   opens = λ until e h. by_state now s w (Quiet until) e ∙ reached until now s (begins Opening 0 (seen now s) w) (stays (seen now s) w) h;
-  asks = λ due command rest e f.
-      by_state now s w (Idle due) e ∙ ap (λ (l : List Command). ticks_in (Idle due) (seen now s) l) f;
+  asks = λ due command rest e free f.
+      by_state now s w (Idle due) e ∙ (ap (λ (l : List Command). ticks_in (Idle due) (seen now s) l) f ∙ asks_front due (seen now s) command rest free);
   rests = λ due e f h.
-      by_state now s w (Idle due) e ∙ (ap (λ (l : List Command). ticks_in (Idle due) (seen now s) l) f
-      ∙ (ahead due now s (begins Polling (next_sequence s.number) (seen now s) []) (stays (seen now s) []) h ∙ ap (λ (l : List Command). stays (seen now s) l) (sym f)));
+      by_state now s w (Idle due) e ∙ (may_wait due (seen now s) w f
+      ∙ ahead due now s (begins Polling (next_sequence s.number) (seen now s) w) (stays (seen now s) w) h);
   polls = λ due e f h.
-      by_state now s w (Idle due) e ∙ (ap (λ (l : List Command). ticks_in (Idle due) (seen now s) l) f
-      ∙ (reached due now s (begins Polling (next_sequence s.number) (seen now s) []) (stays (seen now s) []) h
-      ∙ ap (λ (l : List Command). begins Polling (next_sequence s.number) (seen now s) l) (sym f)));
+      by_state now s w (Idle due) e ∙ (may_wait due (seen now s) w f
+      ∙ reached due now s (begins Polling (next_sequence s.number) (seen now s) w) (stays (seen now s) w) h);
   waits = λ until sends o e h.
       by_state now s w (Waiting until sends o) e ∙ ahead until now s (tries_again sends o (seen now s) w) (stays (seen now s) w) h;
   repeats = λ until sends o e h less.
@@ -185,7 +193,7 @@ after_frame m h = record m { session = h.session }
 exchanged : (x : Exchange) (number now answered_at : ℕ) (q : Packet) (reply : Reply) (report : Option Report) (left : Session → Session) (m : Machine)
     (rest : List Command) → ticks now m.session m.waiting ≡ begins x number (seen now m.session) rest → IsReplyTo number m.session q reply
     → answered x reply (seen answered_at (sent x number now m.session))
-    ≡ record { session = left (seen answered_at (seen now (record m.session { number = number }))); report = report }
+    ≡ record { session = left (seen answered_at (seen now (record m.session { number = number; asked = is_order x }))); report = report }
     → Exchanged x number now answered_at q report left m rest
 exchanged x number now answered_at q reply report left m rest e is settled =
     let begun = begins x number (seen now m.session) rest in
@@ -204,19 +212,19 @@ command_told command reply moved known s e = ap (λ (d : Option Communication). 
 pub exchanges_in_steps : (m : Machine) (now answered_at : ℕ) (q : Packet) → ExchangesInSteps m now answered_at q
 exchanges_in_steps m now answered_at q =
     let steps = ticks_in_steps now m.session m.waiting in record {
-      command = λ due command rest reply e f is stays_there.
+      command = λ due command rest reply e free f is stays_there.
           exchanged (Asking command) (next_sequence m.session.number) now answered_at q reply (Some (Settled command reply)) at_rest m rest
-          (steps.asks due command rest e f) is
+          (steps.asks due command rest e free f) is
           (command_told command reply (moved_by (comset_of command) (com_of reply)) None
           (seen answered_at (sent (Asking command) (next_sequence m.session.number) now m.session)) stays_there);
-      moving = λ due command rest reply answered e f is moves.
+      moving = λ due command rest reply answered e free f is moves.
           exchanged (Asking command) (next_sequence m.session.number) now answered_at q reply (Some (Moved command answered)) (moved_away answered) m rest
-          (steps.asks due command rest e f) is
+          (steps.asks due command rest e free f) is
           (command_told command reply (moved_by (comset_of command) (com_of reply)) (Some answered)
           (seen answered_at (sent (Asking command) (next_sequence m.session.number) now m.session)) moves);
       poll = λ due reply e f h is.
           exchanged Polling (next_sequence m.session.number) now answered_at q reply (poll_told reply (event_in reply)) at_rest m []
-          (steps.polls due e f h ∙ ap (λ (l : List Command). begins Polling (next_sequence m.session.number) (seen now m.session) l) f) is refl;
+          (steps.polls due e (inl f) h ∙ ap (λ (l : List Command). begins Polling (next_sequence m.session.number) (seen now m.session) l) f) is refl;
       opening = λ until id e h is.
           exchanged Opening 0 now answered_at q (PdIdReply id) (Some (Opened id)) at_rest m m.waiting (steps.opens until e h) is refl;
     }
@@ -234,9 +242,7 @@ sends_of : (state : State) (s : Session) (w : List Command) → SendsOf (ticks_i
 sends_of Closed s w = tt
 sends_of (Quiet until) s w =
     either_way SendsOf (nat_le until s.greatest) (begins Opening 0 s w) (stays s w) (λ b. (Opening, refl, refl)) (λ b. tt)
-sends_of (Idle due) s (command ∷ w) = (Asking command, refl, refl)
-sends_of (Idle due) s [] =
-    either_way SendsOf (nat_le due s.greatest) (begins Polling (next_sequence s.number) s []) (stays s []) (λ b. (Polling, refl, refl)) (λ b. tt)
+sends_of (Idle due) s w = idle_way SendsOf due s w (λ b. (Polling, refl, refl)) (λ b. tt) (λ command rest e. (Asking command, refl, refl))
 sends_of (Waiting until sends o) s w =
     either_way SendsOf (nat_le until s.greatest) (tries_again sends o s w) (stays s w)
     (λ b. either_way SendsOf (nat_lt sends s.config.sends) (sends_frame (sends + 1) o s w) (gives_up o s w) (λ c. (o.exchange, refl, refl)) (λ c. tt))

@@ -2,6 +2,8 @@
 use Rattle.osdp_controller_laws.proofs.Common.{◌≡◌, ap, subst, ℕ, zero, suc, ◌+◌, ◌≤◌, true, false, List, [], ◌∷◌, Option, Some, None, refl, arith, if◌then◌else◌, nat_lt, nat_le, is_some, max, next_sequence, Command, Exchange, Opening, Polling, Asking, Report, Lost, Session, State, Closed, Quiet, Idle, Waiting, Pausing, inl, inr, ◌⊎◌, meaning_of, ReplyMeaning, submitted_command, Heard, hears_in, ignores, numbered_in, is_from_reader, CountsSends, KeepsTime, NumbersTakeTurns, TakesFront, TellsLost, exchange_in, Machine, begin_refusal, begun, changed_unless, is_outstanding, sent_in, seen, is_idle, Ticked, begins, gives_up, sends_frame, stays, ticks_in, tries_again, either_way}
 use Rattle.osdp_controller.specs.declared.report.LostCause.TheVariants as causes
 use Rattle.osdp_controller_laws.proofs.Frames.{OfEach, either_frame, of_pause, of_wait}
+use Rattle.osdp_controller.proofs.Idling.{asks_front, idle_way, poll_way, polls_alone, polls_first}
+use Rattle.osdp_controller.specs.Sessions.{is_poll_next}
 
 -- one frame more, in an exchange that is outstanding then
 abbrev OneMore : State → Ticked → Type 0
@@ -12,9 +14,7 @@ one_more : (state : State) (s : Session) (w : List Command) → OneMore state (t
 one_more Closed s w = λ h. cc
 one_more (Quiet until) s w =
     either_way (OneMore (Quiet until)) (nat_le until s.greatest) (begins Opening 0 s w) (stays s w) (λ b h. (refl, refl)) (λ b h. cc)
-one_more (Idle due) s (command ∷ w) = λ h. (refl, refl)
-one_more (Idle due) s [] =
-    either_way (OneMore (Idle due)) (nat_le due s.greatest) (begins Polling (next_sequence s.number) s []) (stays s []) (λ b h. (refl, refl)) (λ b h. cc)
+one_more (Idle due) s w = idle_way (OneMore (Idle due)) due s w (λ b h. (refl, refl)) (λ b h. cc) (λ command rest e h. (refl, refl))
 one_more (Waiting until sends o) s w =
     either_way (OneMore (Waiting until sends o)) (nat_le until s.greatest) (tries_again sends o s w) (stays s w)
     (λ b. either_way (OneMore (Waiting until sends o)) (nat_lt sends s.config.sends) (sends_frame (sends + 1) o s w) (gives_up o s w) (λ c h. (refl, refl)) (λ c h. cc))
@@ -44,18 +44,28 @@ counts_sends now s w = record {
 
 -- the front of the waiting commands
 
-front_in : (state : State) (s : Session) (w : List Command) (command : Command) (rest : List Command) → is_idle state ≡ true → w ≡ command ∷ rest
+front_in : (state : State) (s : Session) (w : List Command) (command : Command) (rest : List Command) → is_idle state ≡ true → is_poll_next s ≡ false → w ≡ command ∷ rest
     → (exchange_in (ticks_in state s w).session.state ≡ Some (Asking command)) × ((ticks_in state s w).waiting ≡ rest)
-front_in (Idle due) s w command rest h e = rw e (refl, refl)
-front_in _ s w command rest h e = cc
+front_in (Idle due) s w command rest h free e =
+    rw (e, asks_front due s command rest free) (refl, refl)
+front_in _ s w command rest h free e = cc
 
 abbrev Polls : Ticked → Type 0
 Polls t = is_some t.step.frame ≡ true → exchange_in t.session.state ≡ Some Polling
 
 poll_in : (state : State) (s : Session) (w : List Command) → is_idle state ≡ true → w ≡ [] → Polls (ticks_in state s w)
 poll_in (Idle due) s w h e =
-    rw e (either_way Polls (nat_le due s.greatest) (begins Polling (next_sequence s.number) s []) (stays s []) (λ b f. refl) (λ b f. cc))
+    rw (e, polls_alone due s) (poll_way Polls due s [] (λ b f. refl) (λ b f. cc))
 poll_in _ s w h e = cc
+
+-- a POLL comes first: it begins once it is due, and all stay
+abbrev PollsBefore : List Command → Ticked → Type 0
+PollsBefore w t = Polls t × (t.waiting ≡ w)
+
+first_in : (state : State) (s : Session) (w : List Command) → is_idle state ≡ true → is_poll_next s ≡ true → PollsBefore w (ticks_in state s w)
+first_in (Idle due) s w h next =
+    rw (polls_first due s w next) (poll_way (PollsBefore w) due s w (λ b. ((λ f. refl), refl)) (λ b. ((λ f. cc), refl)))
+first_in _ s w h next = cc
 
 stay_in : (state : State) (s : Session) (w : List Command) → is_idle state ≡ false → (ticks_in state s w).waiting ≡ w
 stay_in Closed s w h = refl
@@ -71,7 +81,8 @@ stay_in (Pausing until o) s w h =
 
 pub takes_front : (now : ℕ) (s : Session) (w : List Command) → TakesFront now s w
 takes_front now s w = record {
-  front = λ command rest h e. front_in s.state (seen now s) w command rest h e;
+  front = λ command rest h free e. front_in s.state (seen now s) w command rest h free e;
+  first = λ h next. first_in s.state (seen now s) w h next;
   poll = λ h e f. poll_in s.state (seen now s) w h e f;
   stay = λ h. stay_in s.state (seen now s) w h;
 }
@@ -87,9 +98,7 @@ lost_in : (state : State) (s : Session) (w : List Command) → LostIf state (tic
 lost_in Closed s w = tt
 lost_in (Quiet until) s w =
     either_way (λ (t : Ticked). LostIf (Quiet until) t.step.report) (nat_le until s.greatest) (begins Opening 0 s w) (stays s w) (λ b. tt) (λ b. tt)
-lost_in (Idle due) s (command ∷ w) = tt
-lost_in (Idle due) s [] =
-    either_way (λ (t : Ticked). LostIf (Idle due) t.step.report) (nat_le due s.greatest) (begins Polling (next_sequence s.number) s []) (stays s []) (λ b. tt) (λ b. tt)
+lost_in (Idle due) s w = idle_way (λ (t : Ticked). LostIf (Idle due) t.step.report) due s w (λ b. tt) (λ b. tt) (λ command rest e. tt)
 lost_in (Waiting until sends o) s w =
     either_way (λ (t : Ticked). LostIf (Waiting until sends o) t.step.report) (nat_le until s.greatest) (tries_again sends o s w) (stays s w)
     (λ b. either_way (λ (t : Ticked). LostIf (Waiting until sends o) t.step.report) (nat_lt sends s.config.sends) (sends_frame (sends + 1) o s w) (gives_up o s w)

@@ -3,24 +3,31 @@ use Rattle.osdp_controller_laws.proofs.Common.{◌≡◌, ◌∙◌, ap, sym, su
 use Rattle.osdp_controller.specs.declared.report.LostCause.TheVariants as causes
 use Rattle.osdp_controller_laws.specs.Waits.{IsDueAfter, WaitsAsSet, so_long_after}
 use Rattle.osdp_controller_laws.proofs.Frames.{OfEach, either_frame, of_pause, of_wait}
-use Rattle.osdp_controller_laws.proofs.Stepwise.{frames_in_steps}
+use Rattle.osdp_controller_laws.proofs.Stepwise.{frames_in_steps, may_wait}
+use Rattle.osdp_controller.proofs.Idling.{idle_way}
+use Rattle.osdp_controller.specs.Sessions.{is_poll_next}
+use Rattle.std.specs.Prelude.{◌⊎◌}
 
 -- where one branch sends or tells something and the other doesn't, the test says which
 acts_by : (b : Bool) (x y : Ticked) → acts x.step ≡ true → acts y.step ≡ false → acts (if b then x else y).step ≡ b
 acts_by true x y p q = p
 acts_by false x y p q = q
 
+-- no command is to be asked at once: none waits, or a POLL has to come first
+abbrev MayWait : Session → List Command → Type 0
+MayWait s waiting = (waiting ≡ []) ⊎ (is_poll_next s ≡ true)
+
 -- a tick is due once the moment is reached that the state waits for, where no command is to be asked at once
-due_in : (state : State) (s : Session) (waiting : List Command) (moment : ℕ) → moment_of state ≡ Some moment → (is_idle state ≡ true → waiting ≡ [])
+due_in : (state : State) (s : Session) (waiting : List Command) (moment : ℕ) → moment_of state ≡ Some moment → (is_idle state ≡ true → MayWait s waiting)
     → acts (ticks_in state s waiting).step ≡ nat_le moment s.greatest
 due_in Closed s waiting moment is none = absurd cc
 due_in (Quiet until) s waiting moment is none =
     let same : until ≡ moment = cc in
     acts_by (nat_le until s.greatest) (begins Opening 0 s waiting) (stays s waiting) refl refl ∙ ap (λ t. nat_le t s.greatest) same
-due_in (Idle due) s [] moment is none =
+due_in (Idle due) s waiting moment is none =
     let same : due ≡ moment = cc in
-    acts_by (nat_le due s.greatest) (begins Polling (next_sequence s.number) s []) (stays s []) refl refl ∙ ap (λ t. nat_le t s.greatest) same
-due_in (Idle due) s (command ∷ rest) moment is none = absurd (let some : command ∷ rest ≡ [] = none refl in cc)
+    ap (λ (t : Ticked). acts t.step) (may_wait due s waiting (none refl))
+    ∙ acts_by (nat_le due s.greatest) (begins Polling (next_sequence s.number) s waiting) (stays s waiting) refl refl ∙ ap (λ t. nat_le t s.greatest) same
 due_in (Waiting until sends o) s waiting moment is none =
     let same : until ≡ moment = cc in
     acts_by (nat_le until s.greatest) (tries_again sends o s waiting) (stays s waiting)
@@ -35,7 +42,7 @@ due_in (Pausing until o) s waiting moment is none =
 abbrev WaitsFor : ℕ → Session → Type 0
 WaitsFor wait s = moment_of s.state ≡ Some (min (s.greatest + wait) (2 ^ 64 - 1))
 
-due_after : (wait : ℕ) (m : Machine) → WaitsFor wait m.session → (is_idle m.session.state ≡ true → m.waiting ≡ []) → IsDueAfter wait m
+due_after : (wait : ℕ) (m : Machine) → WaitsFor wait m.session → (is_idle m.session.state ≡ true → MayWait m.session m.waiting) → IsDueAfter wait m
 due_after wait m waits none = λ at. due_in m.session.state (seen at m.session) m.waiting (so_long_after wait m) waits none
 
 -- ---- a frame goes out
@@ -47,10 +54,7 @@ sent_waits : (state : State) (s : Session) (w : List Command) → SentWaits s.co
 sent_waits Closed s w = λ h. cc
 sent_waits (Quiet until) s w =
     either_way (SentWaits s.config.reply_wait) (nat_le until s.greatest) (begins Opening 0 s w) (stays s w) (λ b h. (refl, refl)) (λ b h. cc)
-sent_waits (Idle due) s (command ∷ w) = λ h. (refl, refl)
-sent_waits (Idle due) s [] =
-    either_way (SentWaits s.config.reply_wait) (nat_le due s.greatest) (begins Polling (next_sequence s.number) s []) (stays s [])
-    (λ b h. (refl, refl)) (λ b h. cc)
+sent_waits (Idle due) s w = idle_way (SentWaits s.config.reply_wait) due s w (λ b h. (refl, refl)) (λ b h. cc) (λ command rest e h. (refl, refl))
 sent_waits (Waiting until sends o) s w =
     either_way (SentWaits s.config.reply_wait) (nat_le until s.greatest) (tries_again sends o s w) (stays s w)
     (λ b. either_way (SentWaits s.config.reply_wait) (nat_lt sends s.config.sends) (sends_frame (sends + 1) o s w) (gives_up o s w)

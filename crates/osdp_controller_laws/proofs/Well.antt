@@ -1,8 +1,9 @@
 -- What holds of each controller is kept by each call.
-use Rattle.osdp_controller_laws.proofs.Common.{◌≡◌, ℕ, ◌+◌, ◌-◌, ◌<◌, ◌≤◌, ◌&&◌, Bool, true, false, List, [], ◌∷◌, length, Option, Some, None, refl, arith, rules, ◌≢◌, if◌then◌else◌, All, drop, nat_lt, nat_le, ltb-true, All-nil, All-push, All-tail, next_sequence, Command, Poll, ControllerConfig, Opening, Polling, Outstanding, ControllerFault, Session, State, Closed, Quiet, Idle, Waiting, Pausing, IsMachine, IsOutstanding, IsState, IsSubmitted, Machine, after_begin, after_retarget, after_submit, after_withdraw, bytes_kept, changed_unless, command_size, or_no_device, refused_unless_closed, retarget_refusal, submit_refusal, Call, Submit, Begin, Retarget, Withdraw, Tick, Hear, StaysWell, after_call, after_calls, seen, is_closed, Ticked, begins, gives_up, sends_frame, stays, ticks_in, tries_again, either_way, first_true, keeps_seen}
+use Rattle.osdp_controller_laws.proofs.Common.{◌≡◌, ℕ, ◌+◌, ◌-◌, ◌<◌, ◌≤◌, ◌&&◌, Bool, true, false, List, [], ◌∷◌, length, Option, Some, None, refl, arith, rules, ◌≢◌, if◌then◌else◌, All, drop, nat_lt, nat_le, ltb-true, All-nil, All-push, All-tail, next_sequence, Command, Poll, ControllerConfig, Opening, Polling, Outstanding, ControllerFault, Session, State, Closed, Quiet, Idle, Waiting, Pausing, IsMachine, IsOutstanding, IsState, IsSubmitted, Machine, after_begin, after_retarget, after_submit, after_withdraw, bytes_kept, changed_unless, command_size, or_no_device, refused_unless_closed, retarget_refusal, submit_refusal, Call, Submit, Begin, Retarget, Withdraw, Tick, Hear, StaysWell, after_call, after_calls, seen, is_some, on_its_way, Ticked, begins, gives_up, sends_frame, stays, ticks_in, tries_again, either_way, first_true, keeps_seen}
 use Rattle.std.proofs.lemmas.List.{length_push}
 use Rattle.osdp_controller.specs.Settings.{IsConfig}
 use Rattle.osdp_controller_laws.proofs.Bounded.{keeps_hears, keeps_tick}
+use Rattle.osdp_controller.proofs.Idling.{idle_way}
 
 accepted : (fault : ControllerFault) (b : Bool) → (if b then None else Some fault) ≡ None → b ≡ true
 accepted fault true h = refl
@@ -75,14 +76,14 @@ keeps_retarget (Some fault) address m device is = is
 -- withdrawing: the front leaves, or none
 
 rest_well : (capacity : ℕ) (b : Bool) (w : List Command) → All IsSubmitted w → length w ≤ capacity
-    → All IsSubmitted (if b then drop 1 w else w) × (length (if b then drop 1 w else w) ≤ capacity)
-rest_well capacity true [] all room = (all, room)
-rest_well capacity true (command ∷ w) all room = (All-tail IsSubmitted command w all, omega arith)
-rest_well capacity false w all room = (all, room)
+    → All IsSubmitted (if b then w else drop 1 w) × (length (if b then w else drop 1 w) ≤ capacity)
+rest_well capacity true w all room = (all, room)
+rest_well capacity false [] all room = (all, room)
+rest_well capacity false (command ∷ w) all room = (All-tail IsSubmitted command w all, omega arith)
 
 keeps_withdraw : (m : Machine) → IsMachine m → IsMachine (after_withdraw m)
 keeps_withdraw m is =
-    let rest = rest_well m.capacity (is_closed m.session.state) m.waiting is.waiting is.room in record {
+    let rest = rest_well m.capacity (is_some (on_its_way m.session.state)) m.waiting is.waiting is.room in record {
       session = is.session;
       capacity = is.capacity;
       waiting = rest.0;
@@ -99,9 +100,9 @@ wait_well : (capacity : ℕ) (state : State) (s : Session) (w : List Command) �
 wait_well capacity Closed s w all room = (all, room)
 wait_well capacity (Quiet until) s w all room =
     either_way (WaitWell capacity) (nat_le until s.greatest) (begins Opening 0 s w) (stays s w) (λ b. (all, room)) (λ b. (all, room))
-wait_well capacity (Idle due) s (command ∷ w) all room = (All-tail IsSubmitted command w all, omega arith)
-wait_well capacity (Idle due) s [] all room =
-    either_way (WaitWell capacity) (nat_le due s.greatest) (begins Polling (next_sequence s.number) s []) (stays s []) (λ b. (all, room)) (λ b. (all, room))
+wait_well capacity (Idle due) s w all room =
+    idle_way (WaitWell capacity) due s w (λ b. (all, room)) (λ b. (all, room))
+    (λ command rest e. let each = rw e at all in let fits = rw e at room in (All-tail IsSubmitted command rest each, omega (arith, fits)))
 wait_well capacity (Waiting until sends o) s w all room =
     either_way (WaitWell capacity) (nat_le until s.greatest) (tries_again sends o s w) (stays s w)
     (λ b. either_way (WaitWell capacity) (nat_lt sends s.config.sends) (sends_frame (sends + 1) o s w) (gives_up o s w) (λ c. (all, room)) (λ c. (all, room)))

@@ -23,7 +23,7 @@ use Rattle.osdp_controller.specs.Exchanges.{exchange_number, submitted_command}
 use Rattle.osdp_controller.specs.Hearing.{answered, hears}
 use Rattle.osdp_controller.specs.Machine.{IsSession, Machine, is_outstanding, sent_in}
 use Rattle.osdp_controller_laws.specs.Runs.{Begin, after_call}
-use Rattle.osdp_controller.specs.Sessions.{seen}
+use Rattle.osdp_controller.specs.Sessions.{is_poll_next, seen}
 use Rattle.osdp_controller.specs.States.{is_idle}
 use Rattle.osdp_controller.specs.Ticking.{ticks}
 
@@ -95,13 +95,15 @@ pub record CountsSends (now : ℕ) (s : Session) (waiting : List Command) : Type
   -- what comes leaves the count as it is, or ends the exchange
   pub kept : (p : Packet) → (sent_in (hears p now s).session.state ≡ sent_in s.state) ⊎ (is_outstanding (hears p now s).session.state ≡ false)
 
--- the front of the waiting commands is asked as soon as nothing is outstanding, and leaves; where none waits, a POLL
--- may begin; in every other state they stay, also where the session ends
+-- the front of the waiting commands is asked as soon as nothing is outstanding, and leaves, unless a POLL has to come first; where one has to,
+-- or none waits, a POLL may begin; in every other state they stay, also where the session ends
 pub record TakesFront (now : ℕ) (s : Session) (waiting : List Command) : Type 0 where
-  pub front : (command : Command) (rest : List Command) → is_idle s.state ≡ true → waiting ≡ command ∷ rest
+  pub front : (command : Command) (rest : List Command) → is_idle s.state ≡ true → is_poll_next s ≡ false → waiting ≡ command ∷ rest
       → (exchange_in (ticks now s waiting).session.state ≡ Some (Asking command)) × ((ticks now s waiting).waiting ≡ rest)
   pub poll : is_idle s.state ≡ true → waiting ≡ [] → is_some (ticks now s waiting).step.frame ≡ true
       → exchange_in (ticks now s waiting).session.state ≡ Some Polling
+  pub first : is_idle s.state ≡ true → is_poll_next s ≡ true
+      → (is_some (ticks now s waiting).step.frame ≡ true → exchange_in (ticks now s waiting).session.state ≡ Some Polling) × ((ticks now s waiting).waiting ≡ waiting)
   pub stay : is_idle s.state ≡ false → (ticks now s waiting).waiting ≡ waiting
 
 -- a tick that tells something ends the session, and tells the outstanding command unsettled

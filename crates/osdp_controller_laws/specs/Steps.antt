@@ -1,5 +1,5 @@
 -- The tables as steps: what one call does from each state, and what a whole exchange comes to.
-use Rattle.std.specs.Prelude.{◌≡◌, ◌≢◌, ℕ, ◌+◌, ◌<◌, ◌≤◌, false, max, List, [], ◌∷◌, Option, Some, None, ◌⊎◌}
+use Rattle.std.specs.Prelude.{◌≡◌, ◌≢◌, ℕ, ◌+◌, ◌<◌, ◌≤◌, false, true, max, List, [], ◌∷◌, Option, Some, None, ◌⊎◌}
 use Rattle.osdp_frame.specs.Packet.{Packet, next_sequence}
 use Rattle.osdp_msg.specs.declared.command.Command.{Command}
 use Rattle.osdp_msg.specs.declared.command_fields.Communication.{Communication}
@@ -21,7 +21,8 @@ use Rattle.osdp_controller.specs.Hearing.{answered_unread, com_of, comset_of, he
 use Rattle.osdp_controller_laws.specs.Laws.{Comes, ComesNumbered, IsFromReader, exchange_in}
 use Rattle.osdp_controller.specs.Machine.{Machine, is_outstanding}
 use Rattle.osdp_controller_laws.specs.Runs.{Tick, Hear, after_call, after_calls, sent_by, told_by}
-use Rattle.osdp_controller.specs.Sessions.{at_rest, closed, frame_of, seen}
+use Rattle.osdp_controller.specs.Exchanges.{is_order}
+use Rattle.osdp_controller.specs.Sessions.{at_rest, closed, frame_of, is_poll_next, seen}
 use Rattle.osdp_controller.specs.Ticking.{begins, gives_up, sends_frame, stays, ticks}
 
 -- a deadline is reached at a moment, where one that lies before the greatest seen counts as that one
@@ -37,11 +38,11 @@ pub record TicksInSteps (now : ℕ) (s : Session) (waiting : List Command) : Typ
   -- the line is quiet; then the opening ID goes out
   pub quiet : (until : ℕ) → s.state ≡ Quiet until → IsAheadAt until now s → ticks now s waiting ≡ stays (seen now s) waiting
   pub opens : (until : ℕ) → s.state ≡ Quiet until → IsReachedAt until now s → ticks now s waiting ≡ begins Opening 0 (seen now s) waiting
-  -- the front of the waiting commands goes out at once, and a POLL once it is due
-  pub asks : (due : ℕ) (command : Command) (rest : List Command) → s.state ≡ Idle due → waiting ≡ command ∷ rest
+  -- the front of the waiting commands goes out at once, unless a POLL has to come first, and a POLL once it is due
+  pub asks : (due : ℕ) (command : Command) (rest : List Command) → s.state ≡ Idle due → is_poll_next s ≡ false → waiting ≡ command ∷ rest
       → ticks now s waiting ≡ begins (Asking command) (next_sequence s.number) (seen now s) rest
-  pub rests : (due : ℕ) → s.state ≡ Idle due → waiting ≡ [] → IsAheadAt due now s → ticks now s waiting ≡ stays (seen now s) waiting
-  pub polls : (due : ℕ) → s.state ≡ Idle due → waiting ≡ [] → IsReachedAt due now s
+  pub rests : (due : ℕ) → s.state ≡ Idle due → (waiting ≡ []) ⊎ (is_poll_next s ≡ true) → IsAheadAt due now s → ticks now s waiting ≡ stays (seen now s) waiting
+  pub polls : (due : ℕ) → s.state ≡ Idle due → (waiting ≡ []) ⊎ (is_poll_next s ≡ true) → IsReachedAt due now s
       → ticks now s waiting ≡ begins Polling (next_sequence s.number) (seen now s) waiting
   -- nothing goes out before the deadline; then the frame goes out again, or the session ends
   pub waits : (until sends : ℕ) (o : Outstanding) → s.state ≡ Waiting until sends o → IsAheadAt until now s
@@ -100,15 +101,15 @@ pub record Exchanged (x : Exchange) (number now answered_at : ℕ) (q : Packet) 
   pub frame : sent_by (Tick now) m ≡ Some (frame_of x (record m.session { number = number }))
   pub told : told_by (Hear q answered_at) (after_call (Tick now) m) ≡ report
   pub after : after_calls (Tick now ∷ Hear q answered_at ∷ []) m
-      ≡ record m { session = left (seen answered_at (seen now (record m.session { number = number }))); waiting = rest }
+      ≡ record m { session = left (seen answered_at (seen now (record m.session { number = number; asked = is_order x }))); waiting = rest }
 
 -- the exchanges of a link without losses: a command, one that moves the reader, a POLL, the opening ID
 pub record ExchangesInSteps (m : Machine) (now answered_at : ℕ) (q : Packet) : Type 0 where
-  pub command : (due : ℕ) (command : Command) (rest : List Command) (reply : Reply) → m.session.state ≡ Idle due → m.waiting ≡ command ∷ rest
+  pub command : (due : ℕ) (command : Command) (rest : List Command) (reply : Reply) → m.session.state ≡ Idle due → is_poll_next m.session ≡ false → m.waiting ≡ command ∷ rest
       → IsReplyTo (next_sequence m.session.number) m.session q reply → moved_by (comset_of command) (com_of reply) ≡ None
       → Exchanged (Asking command) (next_sequence m.session.number) now answered_at q (Some (Settled command reply)) at_rest m rest
   pub moving : (due : ℕ) (command : Command) (rest : List Command) (reply : Reply) (answered : Communication) → m.session.state ≡ Idle due
-      → m.waiting ≡ command ∷ rest → IsReplyTo (next_sequence m.session.number) m.session q reply
+      → is_poll_next m.session ≡ false → m.waiting ≡ command ∷ rest → IsReplyTo (next_sequence m.session.number) m.session q reply
       → moved_by (comset_of command) (com_of reply) ≡ Some answered
       → Exchanged (Asking command) (next_sequence m.session.number) now answered_at q (Some (Moved command answered)) (moved_away answered) m rest
   pub poll : (due : ℕ) (reply : Reply) → m.session.state ≡ Idle due → m.waiting ≡ [] → IsReachedAt due now m.session

@@ -5,6 +5,7 @@ use Rattle.osdp_controller.specs.declared.exchange.Outstanding.{Outstanding}
 use Rattle.osdp_controller.specs.declared.meaning.ReplyMeaning.TheVariants.{NotTaken}
 use Rattle.osdp_controller.specs.declared.state.State.TheVariants.{Waiting}
 use Rattle.osdp_controller.specs.Machine.{Machine, is_due, is_outstanding}
+use Rattle.osdp_controller.specs.Sessions.{is_poll_next}
 use Rattle.osdp_controller.specs.States.{is_closed, is_idle}
 use Rattle.osdp_controller_laws.specs.Laws.{Comes}
 use Rattle.osdp_controller_laws.specs.Runs.{Begin, Hear, Tick, after_call, sent_by}
@@ -21,8 +22,9 @@ IsDueAfter wait m = (at : ℕ) → is_due at m ≡ nat_le (so_long_after wait m)
 pub record WaitsAsSet (now : ℕ) (m : Machine) : Type 0 where
   -- a frame goes out: it is sent again, or given up, after the reply wait
   pub reply : (p : Packet) → sent_by (Tick now) m ≡ Some p → IsDueAfter m.session.config.reply_wait (after_call (Tick now) m)
-  -- an exchange ends, the session goes on and no command waits: a POLL follows after the poll interval
-  pub poll : (p : Packet) → is_outstanding m.session.state ≡ true → is_idle (after_call (Hear p now) m).session.state ≡ true → m.waiting ≡ []
+  -- an exchange ends, the session goes on, and no command waits or a POLL has to come first: one follows after the poll interval
+  pub poll : (p : Packet) → is_outstanding m.session.state ≡ true → is_idle (after_call (Hear p now) m).session.state ≡ true
+      → (m.waiting ≡ []) ⊎ (is_poll_next (after_call (Hear p now) m).session ≡ true)
       → IsDueAfter m.session.config.poll_interval (after_call (Hear p now) m)
   -- the reader says BUSY while its answer is waited for, no more often than it may: the frame is sent again after the busy wait
   pub busy : (p : Packet) (until sends : ℕ) (o : Outstanding) → m.session.state ≡ Waiting until sends o → Comes p m.session o.exchange NotTaken

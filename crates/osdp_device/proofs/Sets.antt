@@ -21,6 +21,23 @@ module _ {H : Type 0} (answer_of : H → Command → Answer) (after : H → Comm
   abbrev Says : ReaderState H → Command → Option Said → Type 0
   Says r command told = IsSaidTo command (reply_for (answer_of r.handler command) command) told
 
+  -- ---- another handler leaves what is pending
+
+  answered_alike : (part : RunItem) (r : ReaderState H) (h : H) → is_answered (after_set_handler h r) part ≡ is_answered r part
+  answered_alike (PacketItem p) r h = refl
+  answered_alike (SkippedItem byte) r h = refl
+  answered_alike (RefusedItem fault) r h = refl
+
+  at_alike : (part : RunItem) (r : ReaderState H) (h : H) → pending_at (after_set_handler h r) part ≡ pending_at r part
+  at_alike (PacketItem p) r h = refl
+  at_alike (SkippedItem byte) r h = refl
+  at_alike (RefusedItem fault) r h = refl
+
+  pub pending_alike : (parts : List RunItem) (r : ReaderState H) (h : H) → pending_in parts (after_set_handler h r) ≡ pending_in parts r
+  pending_alike [] r h = refl
+  pending_alike (part ∷ parts) r h =
+      λ i. if answered_alike part r h i then at_alike part r h i else pending_alike parts r h i
+
   -- ---- to a pending command
 
   same_command : (o : Option Reply) (c command : Command) → unless_own o c ≡ Some command → (o ≡ None) × (c ≡ command)

@@ -1,5 +1,5 @@
 -- What a device comes to whose program decides what is said.
-use Rattle.std.specs.Prelude.{◌≡◌, ℕ, List, Option, Some, None}
+use Rattle.std.specs.Prelude.{◌≡◌, ℕ, List, [], ◌∷◌, ◌++◌, Option, Some, None}
 use Rattle.osdp_frame.specs.Bytes.{AreBytes}
 use Rattle.osdp_frame.specs.Held.{Held}
 use Rattle.osdp_frame.specs.Packet.{Packet}
@@ -34,10 +34,26 @@ pub record SaysWhatWasSet (r : ReaderState ProgramAnswers) (held : Held) (comman
   pub set : (answer : Answer) → r.handler.question ≡ Answered answer → IsSaidTo command (reply_for answer command) (turned r held).said
   pub told : r.handler.question ≡ Asked → IsSaidTo command (reply_for (status_answer r.handler.status command) command) (turned r held).said
 
--- what is set takes the place of what was set before, and nothing else changes
-abbrev pub TakesItsPlace : Type 0
-TakesItsPlace = (question : Question) (r : ReaderState ProgramAnswers)
-    → with_question question r ≡ record r { handler = record r.handler { question = question } }
+-- the program sets one answer after another
+abbrev pub after_sets : List Answer → ReaderState ProgramAnswers → ReaderState ProgramAnswers
+after_sets [] r = r
+after_sets (answer ∷ answers) r = after_sets answers (with_question (Answered answer) r)
+
+-- the address and the settings, the last number, the stored reply, the events that wait, BUSY, and the program's status
+pub record StaysElse (r now : ReaderState ProgramAnswers) : Type 0 where
+  pub config : now.config ≡ r.config
+  pub last : now.last ≡ r.last
+  pub stored : now.stored ≡ r.stored
+  pub queue : now.queue ≡ r.queue
+  pub busy : now.busy ≡ r.busy
+  pub status : now.handler.status ≡ r.handler.status
+
+-- However many answers are set for a pending command, the last one is said to it. The turn is the one that comes where it alone was set, and to set
+-- answers changes nothing else.
+pub record SaysTheLast (r : ReaderState ProgramAnswers) (held : Held) (command : Command) (set : List Answer) (answer : Answer) : Type 0 where
+  pub last : IsSaidTo command (reply_for answer command) (turned (after_sets (set ++ answer ∷ []) r) held).said
+  pub alone : turned (after_sets (set ++ answer ∷ []) r) held ≡ turned (after_sets (answer ∷ []) r) held
+  pub same : StaysElse r (after_sets (set ++ answer ∷ []) r)
 
 -- it stops before a command about which it has not asked, and says nothing yet
 pub record StopsFirst (r : ReaderState ProgramAnswers) (held : Held) (command : Command) : Type 0 where

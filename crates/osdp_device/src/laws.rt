@@ -6,7 +6,8 @@ ghost use Rattle.osdp_frame.specs.Bytes.{AreBytes};
 ghost use Rattle.osdp_frame.specs.Held.{Held};
 ghost use Rattle.osdp_reader.specs.State.{ReaderState};
 ghost use Rattle.osdp_device.specs.Deciding.{pending_of};
-ghost use Rattle.osdp_device.specs.DecidingLaws.{IsSaidOnce, RepeatsWhatIsStored, SaysItToNoOther, SaysWhatWasSet, StaysPending, StopsFirst, TakesItsPlace};
+ghost use Rattle.osdp_device.specs.DecidingLaws.{IsSaidOnce, RepeatsWhatIsStored, SaysItToNoOther, SaysTheLast, SaysWhatWasSet, StaysPending, StopsFirst};
+ghost use Rattle.osdp_reader.specs.declared.handler.Answer.{Answer};
 ghost use Rattle.osdp_device.specs.Hearing.{NeedsFewerTurns, TakesInTurn, hears_bytes, reads_all, then_hears};
 ghost use Rattle.osdp_device.specs.Moments.{MomentsAreSeen, RunsAreReadAtTheirEnd};
 ghost use Rattle.osdp_frame.specs.Receiving.{IsAllRead, IsReceived, Received};
@@ -85,8 +86,8 @@ pub fn refusals_are_naks<H: Handler>()
         → (order_of (said_to H.answer_of H.after r p) ≡ Refused) ↔ (is_refusal reply ≡ true) }
 {}
 
-/// A command that is acted on, is no POLL and isn't refused is done once exactly where it came with the next number, and as one that may come again exactly where
-/// it came with number 0. Nothing is done on a POLL, nor on what isn't acted on or can't be read.
+/// A command that is acted on, is no POLL and isn't refused is told as one to do once exactly where it came with the next number, and as one that may come again
+/// exactly where it came with number 0. On a POLL nothing is told to be done, nor on what isn't acted on or can't be read.
 pub fn orders_by_number<H: Handler>()
     ensures { (r : ReaderState H) (p : Packet) → OrdersByNumber H.answer_of H.after r p }
 {
@@ -94,8 +95,8 @@ pub fn orders_by_number<H: Handler>()
 }
 
 /// What is said to a pending command is what the device's program has set for it, and what its status tells where nothing was set. Before that
-/// the device stops, once. A pending command stays so, whatever comes after it: so it is the one about which the program was asked. What is set takes the
-/// place of what was set before.
+/// the device stops, once. A pending command stays so, whatever comes after it: so it is the one about which the program was asked. However many
+/// answers are set, the last one is said, and to set them changes nothing else.
 pub fn says_what_was_set()
     ensures said { (r : ReaderState ProgramAnswers) (held : Held) (command : Command) → pending_of r held ≡ Some command
         → SaysWhatWasSet r held command }
@@ -103,7 +104,8 @@ pub fn says_what_was_set()
         → r.handler.question ≡ NotAsked → StopsFirst r held command }
     ensures stays { (r : ReaderState ProgramAnswers) (l : Received) (command : Command) → IsReceived l → pending_of r l.held ≡ Some command
         → StaysPending r l command }
-    ensures place { TakesItsPlace }
+    ensures last { (r : ReaderState ProgramAnswers) (held : Held) (command : Command) (set : List Answer) (answer : Answer)
+        → pending_of r held ≡ Some command → SaysTheLast r held command set answer }
 {}
 
 /// What was set for a command is said to no other: to what isn't pending the same is said whatever is set, a repeat is the stored reply, and
@@ -114,9 +116,10 @@ pub fn says_it_to_no_other()
     ensures repeats { (r : ReaderState ProgramAnswers) (held : Held) → RepeatsWhatIsStored r held }
 {}
 
-/// Each event that waits keeps the moment at which it came, whatever is called: so the age of the oldest is the time since it came. A packet lets
-/// the oldest event go with its moment, or each stays with its own. A device is offline until its reader has answered a packet, and from 8,000 ms after the
-/// last one on. The oldest event is taken off exactly where the device is offline, there is a limit, and the event came longer ago than that, to the millisecond.
+/// An event that waits keeps the moment with which it came, as another comes, a packet is heard, or one is taken back or expires. So the age of the oldest is the
+/// time since that moment. A packet lets the oldest event go with its moment, or each stays with its own. A device is offline until its reader has answered a packet, and
+/// from 8,000 ms after the last one on. The oldest event is too old exactly where the device is offline, there is a limit, and the event came longer ago than that, to
+/// the millisecond.
 pub fn events_keep_their_moments<H: Handler>()
     ensures none { BeginsWithNone H }
     ensures arrives { ArrivesWithItsMoment H }
@@ -130,8 +133,8 @@ pub fn events_keep_their_moments<H: Handler>()
     osdp_reader_laws::changes_by_acting::<H>();
 }
 
-/// A device whose program sets its states beforehand answers LSTAT, ISTAT, OSTAT and RSTAT by these. OUT is refused exactly where one of its outputs isn't there, LED, BUZ and TEXT
-/// never, and MFG always.
+/// A device whose program sets its states beforehand tells them to LSTAT, ISTAT, OSTAT and RSTAT, byte for byte. OUT is refused by NAK 9 exactly where one of its outputs isn't
+/// there, and else told done by ACK; so are LED, BUZ and TEXT always, and MFG never.
 pub fn answers_from_status()
     ensures { (s : DeviceStatus) → AnswersFromStatus s }
 {}

@@ -14,8 +14,9 @@ use osdp_reader::Handler;
 /// that was on the wire.
 ///
 /// The premises are those of any calls, asked as if our entries came first, in the order of our devices, and none were left out. So the address of one
-/// that is left out is no other's: all entries could be added as they stand, with those that are left out, and the panel accepts no COMSET and no
-/// `retarget` to their addresses. One that is added in use comes at the address that was left free for it. The line with all entries has what the panel
+/// that is left out is no other's: all entries of a new panel, those of others too, could be added to a new bus as they stand, with those that are left out, so
+/// they are sixteen at most. The panel accepts no COMSET and no `retarget` of any entry to an address that is left out. One that is added in use, of whatever
+/// maker, comes at the address that was left free for it, and no entry has been there since the panel was made. The line with all entries has what the panel
 /// has, by other numbers: the same entries, the same reports, and at a tick the same goes out. One that is left out is idle there. Calls that keep the
 /// premises of any calls keep these, where the panel's entries could be added as they stand.
 pub fn own_order_holds_once<H: Handler>()

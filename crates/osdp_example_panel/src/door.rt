@@ -1,10 +1,11 @@
 //! The door: where it is, what it is, and when its session begins. What is to be kept of it is told by a line `keep ..` before anything more is sent.
 
 use super::kept::{Call, Identity, Place, Stand, comset, read_call};
-use osdp_panel::{Address, BusFault, Command, EntryNumber, Panel, Report, Room};
-use osdp_site::{Site, SiteConfig};
-use std::alloc::Global;
+use osdp_panel::{Address, Command, EntryNumber, Panel, Report};
 use std::io;
+
+/// From a session that has ended to the next one, in milliseconds.
+const PAUSE: u64 = 1000;
 
 /// The first device of the panel.
 pub const DOOR: EntryNumber = 0;
@@ -14,7 +15,7 @@ pub const FIRST: Place = Place {
     rate: 9600,
 };
 /// Where the door is, the rate of the port, the device that has answered the opening, another device than the door that has answered last and where it stands, whether
-/// nothing more is said to it, so that its session ends, the place of a COMSET that the panel doesn't take yet, and the site, which says when the next session begins.
+/// nothing more is said to it, so that its session ends, and when the next session begins; none where one has begun.
 #[derive(Drop)]
 pub struct Door {
     stand: Stand,
@@ -22,23 +23,20 @@ pub struct Door {
     answered: Option<Identity>,
     other: Option<(Identity, Place)>,
     pub is_left: bool,
-    moves: Option<Place>,
-    pub site: Site,
+    pub begins: Option<u64>,
 }
 
 impl Door {
-    /// At first it is where it was made to be; its panel has this room for commands. None where there is no memory.
-    pub fn new(alloc: Global, room: Room) -> Option<Door> {
-        let site = Site::new(alloc, 1, SiteConfig::new(room), 0).ok()?;
-        Some(Door {
+    /// At first it is where it was made to be, and its session begins at once.
+    pub fn new() -> Door {
+        Door {
             stand: Stand::new(FIRST),
             rate: FIRST.rate,
             answered: None,
             other: None,
             is_left: false,
-            moves: None,
-            site,
-        })
+            begins: Some(0),
+        }
     }
 
     /// Whether the session is open, and the device is the door.
@@ -54,17 +52,35 @@ impl Door {
         println!(rt; "keep {}", self.stand)
     }
 
-    /// Begins a session whose moment has come, at each of its places in turn. The orders that waited are stale: the site takes them back.
-    pub fn begin(&mut self, rt: &HostRuntime, panel: &mut Panel, now: u64) -> io::Result<()> {
-        if self.site.is_due(DOOR, now) != Some(true) {
-            return Ok(());
+    /// Takes back what still waits as a session ends, since it is stale. A COMSET among it has not gone out, so the door is where it was.
+    fn take_back(&mut self, rt: &HostRuntime, panel: &mut Panel) -> io::Result<()> {
+        let before = self.stand;
+        for _ in 0..panel.waiting(DOOR).unwrap_or(0) {
+            if let Ok(Some(Command::Comset(_))) = panel.withdrawable(DOOR) {
+                self.stand.is_at(before.place);
+            }
+            let _ = panel.withdraw(DOOR);
         }
+        if self.stand == before {
+            Ok(())
+        } else {
+            self.keep(rt)
+        }
+    }
+
+    /// Begins a session whose moment has come, at each of its places in turn. The orders that waited are taken back before: while a COMSET waits no address is set.
+    pub fn begin(&mut self, rt: &HostRuntime, panel: &mut Panel, now: u64) -> io::Result<()> {
+        match self.begins {
+            Some(begins) if begins <= now => self.begins = None,
+            Some(_) | None => return Ok(()),
+        }
+        self.take_back(rt, panel)?;
         self.stand.take_turn();
         let Place { address, rate } = self.stand.place;
         if let Some(address) = Address::device(address) {
             let _ = panel.retarget(DOOR, address);
         }
-        self.site.act(panel, now);
+        let _ = panel.begin(DOOR, now);
         if rate != self.rate {
             self.rate = rate;
             println!(rt; "rate {rate}")?;
@@ -109,7 +125,9 @@ impl Door {
 
     /// Does what a report asks for about the door's place and its session.
     pub fn heed(&mut self, rt: &HostRuntime, report: &Report<'_>, now: u64) -> io::Result<()> {
-        let _ = self.site.heed(DOOR, report, now);
+        if let Report::Moved(..) | Report::Lost(..) = report {
+            self.begins = Some(now.saturating_add(PAUSE));
+        }
         match report {
             Report::Opened(id) => {
                 let identity = Identity::of(id);
@@ -133,40 +151,24 @@ impl Door {
             }
             Report::Lost(..) => {
                 (self.answered, self.is_left) = (None, false);
-                self.moves = None; // stale, as each order that waits
                 Ok(())
             }
             _ => Ok(()),
         }
     }
 
-    /// Gives the door another place, once the panel takes the COMSET.
+    /// Orders that the door goes to another place. Both places are kept before the COMSET can go out; where the panel refuses it the door stays where it is.
     fn go(&mut self, rt: &HostRuntime, panel: &mut Panel, place: Place) -> io::Result<()> {
-        if !self.may_order() || self.stand.other.is_some() || self.moves.is_some() {
+        if !self.may_order()
+            || self.stand.other.is_some()
+            || panel
+                .submit(DOOR, &Command::Comset(comset(place)), u64::MAX)
+                .is_err()
+        {
             return println!(rt; "refused line");
         }
-        self.moves = Some(place);
-        self.move_on(rt, panel)
-    }
-
-    /// Orders the COMSET that waits here. Right after an order the panel takes none until a POLL has gone out, and then it is tried again. Once it is taken, both places
-    /// are kept before it can go out. Where it is refused for good the door stays where it is.
-    pub fn move_on(&mut self, rt: &HostRuntime, panel: &mut Panel) -> io::Result<()> {
-        let Some(place) = self.moves else {
-            return Ok(());
-        };
-        match panel.submit(DOOR, &Command::Comset(comset(place))) {
-            Err(BusFault::Full) => Ok(()),
-            Err(_) => {
-                self.moves = None;
-                Ok(())
-            }
-            Ok(()) => {
-                self.moves = None;
-                self.stand.other = Some(place);
-                self.keep(rt)
-            }
-        }
+        self.stand.other = Some(place);
+        self.keep(rt)
     }
 
     /// Does what a line says that is no turn.

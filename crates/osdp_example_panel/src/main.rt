@@ -11,8 +11,8 @@ use door::{DOOR, Door, FIRST};
 use osdp_example_lines::{Line, read_line, send, tell_due};
 use osdp_names::named::output;
 use osdp_panel::{
-    Address, BusConfig, CheckKind, Command, Event, OutputRecord, Outputs, Panel, Raw, Report, Room,
-    Turn,
+    Address, BusConfig, CheckKind, Command, Event, KeptPanelReport, OutputRecord, Outputs, Panel,
+    PanelReport, Raw, Report, Room, Turn, What,
 };
 use std::alloc::Global;
 use std::io;
@@ -33,19 +33,50 @@ fn may_enter(card: &Raw<'_>) -> bool {
 /// A panel with its door, which is asked for its cards between two orders. None where there is no memory.
 fn new_panel(alloc: Global, room: Room) -> Option<Panel> {
     let config = BusConfig::new(CheckKind::Crc, room);
-    let mut panel = Panel::new_with_polls_between(alloc, config).ok()?;
-    panel.add(Address::new(FIRST.address)?).ok()?;
+    let mut panel = Panel::new(alloc, config).ok()?;
+    panel.add(Address::new(FIRST.address)?, 0).ok()?;
     Some(panel)
 }
 
-/// Orders the door's strike. Where as many orders wait as may, the door stays closed.
-fn open(panel: &mut Panel) {
+/// For how long a card opens the door, in milliseconds from the moment at which its reader was asked. What comes of it later is never sent.
+const FRESH: u64 = 2000;
+
+/// Orders the door's strike, until a moment. Where as many orders wait as may, the door stays closed.
+fn open(panel: &mut Panel, until: u64) {
     if let Some(outputs) = Outputs::new(&[STRIKE]) {
-        let _ = panel.submit(DOOR, &Command::Output(outputs));
+        let _ = panel.submit(DOOR, &Command::Output(outputs), until);
     }
 }
 
-/// Takes a turn, and tells what comes of it. A card opens nothing where another device has told it.
+/// Tells what happened, and does what it asks for. A card opens nothing where another device has told it.
+fn heed(
+    rt: &HostRuntime,
+    panel: &mut Panel,
+    door: &mut Door,
+    told: &PanelReport<'_>,
+    now: u64,
+) -> io::Result<()> {
+    let report = match &told.what {
+        What::Expired(command) => return println!(rt; "expired {command:?}"),
+        What::Told(report) => report,
+    };
+    println!(rt; "report {report:?}")?;
+    door.heed(rt, report, now)?;
+    // a card that may have been told before makes no second order
+    if let (Report::Event(Event::Raw(card)), Some(since)) = (report, told.since)
+        && !told.maybe_again
+        && door.may_order()
+        && may_enter(card)
+    {
+        open(panel, since.saturating_add(FRESH));
+    }
+    Ok(())
+}
+
+/// How many reports a turn takes at most. While some are left its tick sends nothing, and the next turn takes them at once.
+const MOST_REPORTS: usize = 64;
+
+/// Takes a turn, and tells what comes of it.
 fn turn(
     rt: &HostRuntime,
     panel: &mut Panel,
@@ -54,43 +85,40 @@ fn turn(
     now: u64,
 ) -> io::Result<()> {
     let mut turn = Turn::new();
+    let mut kept = KeptPanelReport::new();
     door.begin(rt, panel, now)?;
-    if let Some(unsent) = panel.turn(bytes, now, &mut turn) {
-        let burst = unsent.bytes(&turn);
-        // to a door whose session is let end nothing is said: there is no call for it
-        if !door.is_left {
-            send(rt, burst)?;
+    panel.hear(bytes, now);
+    for _ in 0..MOST_REPORTS {
+        if !panel.next_report(&mut kept) {
+            break;
+        }
+        if let Some(told) = kept.read() {
+            heed(rt, panel, door, &told, now)?;
         }
     }
-    for part in [&turn.heard, &turn.ticked] {
-        let Some((_, report)) = part.report.read() else {
-            continue;
-        };
-        println!(rt; "report {report:?}")?;
-        door.heed(rt, &report, now)?;
-        // a card that may have been told before makes no second order
-        if let Report::Event(Event::Raw(card)) = &report
-            && !part.maybe_again
-            && door.may_order()
-            && may_enter(card)
-        {
-            open(panel);
-        }
+    let Some(unsent) = panel.tick(now, &mut turn) else {
+        return Ok(());
+    };
+    // a line has one moment, so the burst is written at that of its turn
+    let burst = panel.write(unsent, now, &turn);
+    // to a door whose session is let end nothing is said: there is no call for it
+    if burst.is_empty() || door.is_left {
+        return Ok(());
     }
-    door.move_on(rt, panel)
+    send(rt, burst)
 }
 
 fn main(rt: HostRuntime) -> io::Result<()> {
     let room = Room::of(16);
     let mut panel = new_panel(rt.alloc(), room).ok_or(io::ErrorKind::OutOfMemory)?;
-    let mut door = Door::new(rt.alloc(), room).ok_or(io::ErrorKind::OutOfMemory)?;
+    let mut door = Door::new();
     for line in rt.lines(rt.alloc()) {
         let line = line?;
         match read_line(rt.alloc(), line.as_str())? {
             Line::Turn(now, bytes) => turn(&rt, &mut panel, &mut door, bytes.as_slice(), now)?,
             Line::Card(_) | Line::Other => door.call(&rt, &mut panel, line.as_str())?,
         }
-        tell_due(&rt, [panel.next_deadline(), door.site.next_deadline()])?;
+        tell_due(&rt, [panel.next_deadline(), door.begins])?;
     }
     Ok(())
 }

@@ -28,7 +28,7 @@ fn run(
     for step in from / 10..until / 10 {
         let now = step * 10;
         match panel_turn(panel, door, back.as_slice(), now, &mut asked) {
-            Some(unsent) => carry(&mut there, unsent.bytes(&asked)),
+            Some(unsent) => carry(&mut there, panel.write(unsent, now, &asked)),
             None => there.clear(),
         }
         match device_turn(device, relays, there.as_slice(), now, &mut told) {

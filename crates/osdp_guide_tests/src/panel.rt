@@ -2,8 +2,8 @@
 
 use osdp_names::named::output;
 use osdp_panel::{
-    Address, BusConfig, BusFault, CheckKind, Command, EntryNumber, Event, OutputRecord, Outputs,
-    Panel, Raw, Report, Room, Turn, Unsent,
+    Address, BusConfig, BusFault, CheckKind, Command, EntryNumber, Event, KeptPanelReport,
+    OutputRecord, Outputs, Panel, PanelReport, Raw, Report, Room, Turn, Unsent, What,
 };
 use std::alloc::Global;
 
@@ -17,7 +17,7 @@ pub fn new_panel(
     now: u64,
 ) -> Result<(Panel, EntryNumber), BusFault> {
     let mut panel = Panel::new(alloc, BusConfig::new(CheckKind::Crc, Room::of(ORDERS)))?;
-    let door = panel.add(address)?;
+    let door = panel.add(address, 0)?;
     panel.begin(door, now)?;
     Ok((panel, door))
 }
@@ -27,46 +27,40 @@ fn may_enter(card: &Raw<'_>) -> bool {
     card.bits() == 26 && card.bytes() == [0x12, 0x34, 0x56, 0x40].as_slice()
 }
 
-/// Orders the door's strike, its output 0, on for three seconds.
-fn open(panel: &mut Panel, door: EntryNumber) {
+/// For how long a card opens the door, in milliseconds from the moment at which its reader was asked.
+const FRESH: u64 = 2000;
+
+/// Orders the door's strike, its output 0, on for three seconds. After this moment the order isn't sent.
+fn open(panel: &mut Panel, door: EntryNumber, until: u64) {
     let strike = OutputRecord {
         output: 0,
         control: output::ON_FOR_A_TIME,
         timer: 30,
     };
     if let Some(outputs) = Outputs::new(&[strike]) {
-        let _ = panel.submit(door, &Command::Output(outputs));
+        let _ = panel.submit(door, &Command::Output(outputs), until);
     }
 }
 
-/// The door was out of reach: the orders that waited are stale, and the session begins again.
-fn begin_again(panel: &mut Panel, door: EntryNumber, now: u64) {
-    for _ in 0..ORDERS {
-        let _ = panel.withdraw(door);
-    }
-    let _ = panel.begin(door, now);
-}
-
-/// What the panel does with a report. A card that may have been told before makes no second order.
-pub fn decide(
-    panel: &mut Panel,
-    door: EntryNumber,
-    report: &Report<'_>,
-    maybe_again: bool,
-    now: u64,
-) {
-    match report {
-        Report::Event(Event::Raw(card)) if may_enter(card) && !maybe_again => open(panel, door),
-        Report::Lost(..) | Report::Moved(..) => begin_again(panel, door, now),
-        Report::Opened(_)
-        | Report::Settled(..)
-        | Report::Event(_)
-        | Report::PollAnswered(_)
-        | Report::Unread(..) => {}
+/// What the panel does with a report. A card that may have been told before makes no second order, and a session that has ended begins again.
+pub fn decide(panel: &mut Panel, door: EntryNumber, told: &PanelReport<'_>, now: u64) {
+    match (&told.what, told.since) {
+        (What::Told(Report::Event(Event::Raw(card))), Some(since))
+            if may_enter(card) && !told.maybe_again => {
+            open(panel, door, since.saturating_add(FRESH));
+        }
+        (What::Told(Report::Lost(..) | Report::Moved(..)), _) => {
+            let _ = panel.begin(door, now);
+        }
+        // an order that has expired is never sent: the card was read too long ago
+        (What::Told(_) | What::Expired(_), _) => {}
     }
 }
 
-/// The panel's loop, once: it reads, takes its turn, and decides. Its caller writes what it answers to the port.
+/// How many reports a turn takes at most. While some are left its tick sends nothing, and the next turn takes them at once.
+const MOST_REPORTS: usize = 64;
+
+/// The panel's loop, once: it hears what the port gave, decides on each report, and ticks. Its caller writes.
 pub fn panel_turn(
     panel: &mut Panel,
     door: EntryNumber,
@@ -74,11 +68,15 @@ pub fn panel_turn(
     now: u64,
     turn: &mut Turn,
 ) -> Option<Unsent> {
-    let unsent = panel.turn(bytes, now, turn);
-    for part in [&turn.heard, &turn.ticked] {
-        if let Some((_, report)) = part.report.read() {
-            decide(panel, door, &report, part.maybe_again, now);
+    let mut kept = KeptPanelReport::new();
+    panel.hear(bytes, now);
+    for _ in 0..MOST_REPORTS {
+        if !panel.next_report(&mut kept) {
+            break;
+        }
+        if let Some(told) = kept.read() {
+            decide(panel, door, &told, now);
         }
     }
-    unsent
+    panel.tick(now, turn)
 }

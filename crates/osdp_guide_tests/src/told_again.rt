@@ -5,7 +5,7 @@ use crate::device::{Relays, card_was_read, device_turn, new_device};
 use crate::panel::{new_panel, panel_turn};
 use arrayvec::ArrayVec;
 use osdp_device::{Burst, Device, ProgramAnswers};
-use osdp_panel::{Address, EntryNumber, Panel, Report, Turn};
+use osdp_panel::{Address, EntryNumber, Panel, Report, Turn, What};
 use std::process::Abort;
 
 /// The beginning of a packet of 1,024 bytes to the panel's device.
@@ -31,7 +31,8 @@ impl Line {
         let unsent = panel_turn(&mut self.panel, self.door, heard, now, &mut self.asked);
         self.there.clear();
         if let Some(unsent) = unsent {
-            let _ = self.there.try_extend_from_slice(unsent.bytes(&self.asked));
+            let burst = self.panel.write(unsent, now, &self.asked);
+            let _ = self.there.try_extend_from_slice(burst);
         }
     }
 
@@ -53,12 +54,14 @@ impl Line {
     }
 }
 
-/// The line from a moment on, in steps of ten milliseconds, up to another. Whether a moment brought the panel an event.
+/// The line from a moment on, in steps of ten milliseconds, up to another. Whether a tick brought the panel an event, which waits for the next turn then.
 fn run(line: &mut Line, noise: &[u8], from: u64, until: u64) -> bool {
     let mut brought = false;
     for step in from / 10..until / 10 {
         line.ask(step * 10);
-        if let Some((_, Report::Event(_))) = line.asked.ticked.report.read() {
+        if let Some(told) = line.panel.report()
+            && let What::Told(Report::Event(_)) = told.what
+        {
             brought = true;
         }
         line.answer(noise, step * 10);

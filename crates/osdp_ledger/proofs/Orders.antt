@@ -59,13 +59,12 @@ ended_front o how is_open late submitted ahead was_open acted was_late accepted 
 
 withdrawn : (o : Order) (h : History) → May (Withdraw o) h.ledger → Orders h → Orders (steps_on (Withdraw o) h)
 withdrawn o h may i =
-    let closed : FrontIs h.ledger.acted false h.ledger.ahead h.acted = subst (λ b. FrontIs h.ledger.acted b h.ledger.ahead h.acted) may.0 i.front in
-    let none : h.ledger.acted ≡ None = none_acted h.ledger.acted h.ledger.ahead h.acted closed in
+    let none : h.ledger.acted ≡ None = may.0 in
     subst (λ acted. OrdersAre h.ledger.submitted (drop 1 h.ledger.ahead) h.ledger.is_open acted h.ledger.late h.accepted h.acted (h.ended ++ (o, GivenBack) ∷ []))
     (sym none)
     (ended_front o GivenBack h.ledger.is_open h.ledger.late h.ledger.submitted h.ledger.ahead h.ledger.is_open h.ledger.acted h.ledger.late h.accepted h.acted h.ended
     may.1 (λ answer e. cc)
-    (λ a comes. absurd (closed_comes h.ledger.acted h.ledger.ahead h.acted a closed comes))
+    (λ a comes. absurd (let some : h.ledger.acted ≡ Some a.1 = comes.0 in cc))
     (λ first is below late. late_more h.ledger.late h.ledger.is_open first (first + 1) h.ended ((o, GivenBack) ∷ []) h.acted (omega arith) late)
     i)
 

@@ -79,7 +79,7 @@ MayActOn order l = ((l.is_open ≡ true) × is_in_front order l.ahead × (l.acte
 -- when a step may happen
 abbrev pub May : Step → Ledger → Type 0
 May (Submit order) l = order.place ≡ l.submitted
-May (Withdraw order) l = (l.is_open ≡ false) × is_in_front order l.ahead
+May (Withdraw order) l = (l.acted ≡ None) × is_in_front order l.ahead
 May Open l = l.is_open ≡ false
 May (Act order answer) l = IsReported l.offer × MayActOn order l
 May (Settle order answer) l = (l.is_open ≡ true) × is_in_front order l.ahead × (l.acted ≡ Some answer)

@@ -3,16 +3,16 @@ use Rattle.std.proofs.Common.{◌≡◌, ◌≤◌, ◌++◌, true, false, inl, 
 use Rattle.std.proofs.lemmas.List.Elements.{All-cons, All-head, All-nil, All-tail, All-weaker}
 use Rattle.std.specs.Prelude.{All}
 use Rattle.osdp_ledger.specs.History.{AreAllowed, History, new_history, runs, steps_on}
-use Rattle.osdp_ledger.specs.Ledger.{Act, Card, Close, Doubt, Lapse, Leave, May, Offers, Open, Queue, Report, Reported, RestartDevice, Settle, Step, Submit, WithdrawEvent}
+use Rattle.osdp_ledger.specs.Ledger.{Act, Card, Close, Doubt, Lapse, Leave, May, Offers, Open, Queue, Report, Reported, RestartDevice, Settle, Step, Submit, Withdraw, WithdrawEvent}
 use Rattle.osdp_ledger.specs.OneSession.{HoldsInOneSession, OneSessionHolds, settled_in}
 use Rattle.osdp_ledger.specs.Plain.{IsPlain}
 use Rattle.osdp_ledger.proofs.Events as events
 use Rattle.osdp_ledger.proofs.Waiting.{Events}
 use Rattle.osdp_ledger_laws.specs.Reports.{GivesNoneUp}
-use Rattle.osdp_ledger_laws.specs.Sessions.{BeginsNone}
+use Rattle.osdp_ledger_laws.specs.Sessions.{AreTakenBackBetween, BeginsNone, IsTakenBackBetween}
 use Rattle.osdp_ledger_laws.proofs.Beginning.{first_reported}
 use Rattle.osdp_ledger_laws.proofs.Reports.{told}
-use Rattle.osdp_ledger_laws.proofs.Sessions.{asked, holds}
+use Rattle.osdp_ledger_laws.proofs.Sessions.{acted_first, asked, holds}
 
 -- ---- before it: all that was accepted waits, and what was offered isn't reported
 
@@ -65,18 +65,29 @@ gives_none_up (Lapse c) plain = plain
 gives_none_up RestartDevice plain = plain
 gives_none_up _ plain = tt
 
+between_one : (step : Step) (h : History) → IsPlain step → IsTakenBackBetween step h
+between_one (Withdraw o) h plain = absurd plain
+between_one _ h plain = tt
+
+between_all : (steps : List Step) (h : History) → All IsPlain steps → AreTakenBackBetween steps h
+between_all [] h plain = tt
+between_all (step ∷ steps) h plain =
+    (between_one step h (All-head IsPlain step steps plain), between_all steps (steps_on step h) (All-tail IsPlain step steps plain))
+
 since_open : (steps : List Step) (h : History) → All IsPlain steps → AreAllowed steps (steps_on Open h) → (runs steps (steps_on Open h)).sessions ≤ 1
     → Events (steps_on Open h) → Unopened h → HoldsInOneSession (runs steps (steps_on Open h))
 since_open steps h plain allowed few e u =
     let last = runs steps (steps_on Open h) in
     let none = none_begin steps (steps_on Open h) (omega (arith, few, u.none.2)) in
     let s = holds h steps allowed none in
+    let a = acted_first h steps allowed none (between_all steps (steps_on Open h) plain) in
     let r = first_reported h steps allowed none (All-weaker IsPlain GivesNoneUp gives_none_up steps plain) e in
     let done : last.acted ≡ s.acted = s.acted_since ∙ ap (λ ds. ds ++ s.acted) u.none.3 in
+    let first : last.acted ≡ a.acted = a.acted_since ∙ ap (λ ds. ds ++ a.acted) u.none.3 in
     let over : last.ended ≡ s.ended = s.ended_since ∙ ap (λ es. es ++ s.ended) u.none.4 in
     let said : last.reports ≡ r.reported = r.reported_since ∙ ap (λ rs. rs ++ r.reported) u.none.5 in
     record {
-      acted = (s.beginning.0, s.accepted_since ∙ ap (λ os. os ++ s.accepted) u.orders ∙ s.beginning.1 ∙ ap (λ ds. map asked ds ++ s.beginning.0) (sym done));
+      acted = (a.beginning.0, a.accepted_since ∙ ap (λ os. os ++ a.accepted) u.orders ∙ a.beginning.1 ∙ ap (λ ds. map asked ds ++ a.beginning.0) (sym first));
       settled = (s.settled.0, done ∙ s.settled.1 ∙ ap (λ es. settled_in es ++ s.settled.0) (sym over), s.settled.2);
       reported = (r.beginning.0, r.queued_since ∙ ap (λ cs. cs ++ r.queued) u.cards ∙ r.beginning.1 ∙ ap (λ rs. map told rs ++ r.beginning.0) (sym said));
     }

@@ -58,4 +58,11 @@ more_happen command answer event = record {
       ),
     ),
   );
+  taken_back = (
+    refl,
+    (
+      refl,
+      (refl, ((refl, (order command answer event 1 ∷ [], refl)), ((tt, inl (refl, ([], refl), refl)), ((refl, ([], refl), refl), tt)))),
+    ),
+  );
 }

@@ -1,7 +1,7 @@
 -- What holds of the orders of a session after each step since it began.
 use Rattle.std.proofs.Common.{◌≡◌, ◌≤◌, ◌++◌, Bool, true, false, List, [], ◌∷◌, length, map, drop, Option, Some, None, refl, sym, subst, ap, ◌∙◌, inl, inr, arith, append_assoc}
 use Rattle.std.proofs.lemmas.List.{append-nil, map-append}
-use Rattle.std.proofs.lemmas.List.Elements.{All-head, All-tail}
+use Rattle.std.proofs.lemmas.List.Elements.{All-head, All-tail, Contains-push}
 use Rattle.std.specs.Prelude.{All}
 use Rattle.osdp_msg.specs.declared.reply.Reply.{Reply}
 use Rattle.osdp_ledger.specs.History.{AreAllowed, End, Forgotten, GivenBack, History, InDoubt, Settled, ends_at_restart, new_history, runs, steps_on}
@@ -9,7 +9,8 @@ use Rattle.osdp_ledger.specs.Ledger.{Act, Close, Doubt, May, MayActOn, Open, Ord
 use Rattle.osdp_ledger.specs.OneSession.{settled_in}
 use Rattle.osdp_ledger.proofs.InTurn.{allowed_second, runs_then}
 use Rattle.osdp_ledger.proofs.Settled.{settled_more}
-use Rattle.osdp_ledger_laws.specs.Sessions.{BeginsNone, EachSessionHolds, HoldsInSession}
+use Rattle.osdp_ledger_laws.specs.Sessions.{AreActedFirst, AreTakenBackBetween, BeginsNone, EachSessionHolds, HoldsInSession, IsTakenBackBetween, OrdersAreABeginning, WithoutGivenBack}
+use Rattle.osdp_ledger_laws.proofs.GivenBack.{ended_more, none_gone, order_goes, order_more}
 
 abbrev pub asked : Order × Reply → Order
 asked done = done.0
@@ -68,7 +69,20 @@ at_most_one true (Some answer) late ahead rest more (in_time, order, one, front)
 at_most_one false now None ahead rest more (few, gone, is) = few
 at_most_one false now (Some order) ahead rest more (none, gone, is) = omega (arith, ap length none)
 
-module _ (began : History) where
+-- where it is asked, orders are taken back only while no session is under way
+abbrev Between : Bool → List Step → History → Type 0
+Between true steps h = AreTakenBackBetween steps h
+Between false steps h = Unit {0}
+
+between_first : (strict : Bool) (step : Step) (steps : List Step) (h : History) → Between strict (step ∷ steps) h → strict ≡ true → IsTakenBackBetween step h
+between_first true step steps h between is = between.0
+between_first false step steps h between is = absurd cc
+
+between_then : (strict : Bool) (step : Step) (steps : List Step) (h : History) → Between strict (step ∷ steps) h → Between strict steps (steps_on step h)
+between_then true step steps h between = between.1
+between_then false step steps h between = tt
+
+module _ (strict : Bool) (began : History) where
   -- of these accepted, acted on and ended, with the ledger's fields
   pub record SessionIs (is_open : Bool) (ahead : List Order) (now : Option Reply) (late : Option Order) (all : List Order) (done : List (Order × Reply)) (over : List (Order × End)) : Type 0 where
     pub accepted : List Order
@@ -79,7 +93,8 @@ module _ (began : History) where
     pub ended_since : over ≡ began.ended ++ ended
     pub rest : List Order
     pub more : List (Order × Reply)
-    pub each : began.ledger.ahead ++ accepted ≡ map asked acted ++ rest
+    pub each : WithoutGivenBack ended (map asked acted ++ rest) (began.ledger.ahead ++ accepted)
+    pub whole : strict ≡ true → began.ledger.ahead ++ accepted ≡ map asked acted ++ rest
     pub settled : acted ≡ settled_in ended ++ more
     pub stand : Stands is_open now late ahead rest more
 
@@ -102,7 +117,11 @@ module _ (began : History) where
     accepted = i.accepted ++ o ∷ [];
     accepted_since = ap (λ os. os ++ o ∷ []) i.accepted_since ∙ append_assoc began.accepted i.accepted (o ∷ []);
     rest = i.rest ++ o ∷ [];
-    each = sym (append_assoc began.ledger.ahead i.accepted (o ∷ [])) ∙ ap (λ os. os ++ o ∷ []) i.each ∙ append_assoc (map asked i.acted) i.rest (o ∷ []);
+    each = subst (λ os. WithoutGivenBack i.ended (map asked i.acted ++ (i.rest ++ o ∷ [])) os) (append_assoc began.ledger.ahead i.accepted (o ∷ []))
+        (subst (λ os. WithoutGivenBack i.ended os ((began.ledger.ahead ++ i.accepted) ++ o ∷ [])) (append_assoc (map asked i.acted) i.rest (o ∷ []))
+        (order_more o i.ended (map asked i.acted ++ i.rest) (began.ledger.ahead ++ i.accepted) i.each));
+    whole = λ is. sym (append_assoc began.ledger.ahead i.accepted (o ∷ [])) ∙ ap (λ os. os ++ o ∷ []) (i.whole is)
+        ∙ append_assoc (map asked i.acted) i.rest (o ∷ []);
     stand = one_waits h.ledger.is_open h.ledger.acted h.ledger.late o h.ledger.ahead i.rest i.more i.stand;
   }
 
@@ -115,7 +134,8 @@ module _ (began : History) where
     accepted_since = i.accepted_since;
     acted_since = i.acted_since;
     rest = i.rest;
-    each = i.each;
+    each = ended_more i.ended new (map asked i.acted ++ i.rest) (began.ledger.ahead ++ i.accepted) i.each;
+    whole = i.whole;
     ended = i.ended ++ new;
     ended_since = is ∙ ap (λ es. es ++ new) i.ended_since ∙ append_assoc began.ended i.ended new;
     more = more;
@@ -124,12 +144,42 @@ module _ (began : History) where
     stand = stand;
   }
 
-  withdraws : (o : Order) (h : History) → May (Withdraw o) h.ledger → Session h → Session (steps_on (Withdraw o) h)
-  withdraws o h (closed, (os, front)) i =
+  -- .. of those that wait in a session the front has gone
+  goes_back : (o : Order) (os : List Order) (h : History) (i : Session h) → (strict ≡ true → h.ledger.is_open ≡ false) → h.ledger.is_open ≡ true → h.ledger.acted ≡ None
+      → h.ledger.ahead ≡ o ∷ os → Session (steps_on (Withdraw o) h)
+  goes_back o os h i closed going none front =
       let l = h.ledger in
-      ends_so ((o, GivenBack) ∷ []) i.more l.is_open (drop 1 l.ahead) l.acted l.late (h.ended ++ (o, GivenBack) ∷ []) h i refl refl
-      (subst (λ b. Stands b l.acted l.late (drop 1 l.ahead) i.rest i.more) (sym closed)
-      (some_go l.acted l.late (o ∷ []) (drop 1 l.ahead) l.ahead i.rest i.more (put_front o os l.ahead front) (subst (λ b. StandsAs h i b l.acted l.late) closed i.stand)))
+      let s : StandsAs h i true None l.late = subst (λ (x : Bool × Option Reply). StandsAs h i x.0 x.1 l.late) (λ j. (going j, none j)) i.stand in
+      let first : i.rest ≡ o ∷ os = s.2 ∙ front in
+      let ended = i.ended ++ (o, GivenBack) ∷ [] in
+      let all = began.ledger.ahead ++ i.accepted in
+      record {
+        accepted = i.accepted;
+        acted = i.acted;
+        accepted_since = i.accepted_since;
+        acted_since = i.acted_since;
+        ended = ended;
+        ended_since = ap (λ es. es ++ (o, GivenBack) ∷ []) i.ended_since ∙ append_assoc began.ended i.ended ((o, GivenBack) ∷ []);
+        rest = os;
+        more = i.more;
+        each = order_goes ended o (map asked i.acted) os all (Contains-push i.ended (o, GivenBack))
+            (subst (λ r. WithoutGivenBack ended (map asked i.acted ++ r) all) first
+            (ended_more i.ended ((o, GivenBack) ∷ []) (map asked i.acted ++ i.rest) all i.each));
+        whole = λ is. absurd (let e : true ≡ false = sym going ∙ closed is in cc);
+        settled = i.settled ∙ ap (λ ds. ds ++ i.more) (sym (append-nil (settled_in i.ended)) ∙ sym (settled_more i.ended ((o, GivenBack) ∷ [])));
+        stand = subst (λ (x : Bool × Option Reply). Stands x.0 x.1 l.late (drop 1 l.ahead) os i.more) (λ j. (sym going j, sym none j)) (s.0, s.1, sym (ap (drop 1) front));
+      }
+
+  withdraws : (o : Order) (h : History) → (strict ≡ true → h.ledger.is_open ≡ false) → May (Withdraw o) h.ledger → Session h → Session (steps_on (Withdraw o) h)
+  withdraws o h between (none, (os, front)) i = by_state h.ledger.is_open refl
+    where
+      by_state : (b : Bool) → h.ledger.is_open ≡ b → Session (steps_on (Withdraw o) h)
+      by_state true going = goes_back o os h i between going none front
+      by_state false closed =
+          let l = h.ledger in
+          ends_so ((o, GivenBack) ∷ []) i.more l.is_open (drop 1 l.ahead) l.acted l.late (h.ended ++ (o, GivenBack) ∷ []) h i refl refl
+          (subst (λ b. Stands b l.acted l.late (drop 1 l.ahead) i.rest i.more) (sym closed)
+          (some_go l.acted l.late (o ∷ []) (drop 1 l.ahead) l.ahead i.rest i.more (put_front o os l.ahead front) (subst (λ b. StandsAs h i b l.acted l.late) closed i.stand)))
 
   settles : (o : Order) (answer : Reply) (h : History) → May (Settle o answer) h.ledger → Session h → Session (steps_on (Settle o answer) h)
   settles o answer h (going, (os, front), now) i =
@@ -199,11 +249,15 @@ module _ (began : History) where
     acted_since = ap (λ ds. ds ++ (o, answer) ∷ []) i.acted_since ∙ append_assoc began.acted i.acted ((o, answer) ∷ []);
     rest = after;
     more = (o, answer) ∷ [];
-    each = i.each ∙ ap (λ os. map asked i.acted ++ os) front ∙ sym (append_assoc (map asked i.acted) (o ∷ []) after)
-        ∙ ap (λ os. os ++ after) (sym (map-append asked i.acted ((o, answer) ∷ [])));
+    each = subst (λ os. WithoutGivenBack i.ended os (began.ledger.ahead ++ i.accepted)) one_later i.each;
+    whole = λ is. i.whole is ∙ one_later;
     settled = ap (λ ds. ds ++ (o, answer) ∷ []) (i.settled ∙ ap (λ ds. settled_in i.ended ++ ds) none ∙ append-nil (settled_in i.ended));
     stand = stand;
   }
+    where
+      one_later : map asked i.acted ++ i.rest ≡ map asked (i.acted ++ (o, answer) ∷ []) ++ after
+      one_later = ap (λ os. map asked i.acted ++ os) front ∙ sym (append_assoc (map asked i.acted) (o ∷ []) after)
+          ∙ ap (λ os. os ++ after) (sym (map-append asked i.acted ((o, answer) ∷ [])))
 
   abbrev Acted : Order → Reply → History → Bool → Type 0
   Acted o answer h b = let l = acted_on b answer h.ledger in SessionIs l.is_open l.ahead l.acted l.late h.accepted (h.acted ++ (o, answer) ∷ []) h.ended
@@ -222,21 +276,22 @@ module _ (began : History) where
 
   -- ---- any step
 
-  keeps : (step : Step) (h : History) → BeginsNone step → May step h.ledger → Session h → Session (steps_on step h)
-  keeps (Submit o) h none may i = submitted o h i
-  keeps (Withdraw o) h none may i = withdraws o h may i
-  keeps Open h none may i = absurd none
-  keeps (Act o answer) h none may i = acts o answer h may.1 i
-  keeps (Settle o answer) h none may i = settles o answer h may i
-  keeps (Doubt o) h none may i = doubts o h may i
-  keeps Close h none may i = closes h may i
-  keeps (RestartPanel on_wire) h none may i = restarts on_wire h may i
-  keeps _ h none may i = i
+  keeps : (step : Step) (h : History) → BeginsNone step → (strict ≡ true → IsTakenBackBetween step h) → May step h.ledger → Session h → Session (steps_on step h)
+  keeps (Submit o) h none between may i = submitted o h i
+  keeps (Withdraw o) h none between may i = withdraws o h between may i
+  keeps Open h none between may i = absurd none
+  keeps (Act o answer) h none between may i = acts o answer h may.1 i
+  keeps (Settle o answer) h none between may i = settles o answer h may i
+  keeps (Doubt o) h none between may i = doubts o h may i
+  keeps Close h none between may i = closes h may i
+  keeps (RestartPanel on_wire) h none between may i = restarts on_wire h may i
+  keeps _ h none between may i = i
 
-  hold : (steps : List Step) (h : History) → All BeginsNone steps → AreAllowed steps h → Session h → Session (runs steps h)
-  hold [] h none allowed i = i
-  hold (step ∷ steps) h none allowed i =
-      hold steps (steps_on step h) (All-tail BeginsNone step steps none) allowed.1 (keeps step h (All-head BeginsNone step steps none) allowed.0 i)
+  hold : (steps : List Step) (h : History) → All BeginsNone steps → Between strict steps h → AreAllowed steps h → Session h → Session (runs steps h)
+  hold [] h none between allowed i = i
+  hold (step ∷ steps) h none between allowed i =
+      hold steps (steps_on step h) (All-tail BeginsNone step steps none) (between_then strict step steps h between) allowed.1
+      (keeps step h (All-head BeginsNone step steps none) (between_first strict step steps h between) allowed.0 i)
 
   -- as it begins
   opens : Session (steps_on Open began)
@@ -249,15 +304,21 @@ module _ (began : History) where
     ended_since = sym (append-nil began.ended);
     rest = began.ledger.ahead;
     more = [];
-    each = append-nil began.ledger.ahead;
+    each = subst (λ os. WithoutGivenBack [] began.ledger.ahead os) (sym (append-nil began.ledger.ahead)) (none_gone [] began.ledger.ahead);
+    whole = λ is. append-nil began.ledger.ahead;
     settled = refl;
     stand = (refl, refl, refl);
   }
 
+  since_open : (since : List Step) → AreAllowed since (steps_on Open began) → All BeginsNone since → Between strict since (steps_on Open began)
+      → Session (runs since (steps_on Open began))
+  since_open since allowed none between = hold since (steps_on Open began) none between allowed opens
+
+module _ (began : History) where
   pub holds : (since : List Step) → AreAllowed since (steps_on Open began) → All BeginsNone since → HoldsInSession began (runs since (steps_on Open began))
   holds since allowed none =
       let h = runs since (steps_on Open began) in
-      let i = hold since (steps_on Open began) none allowed opens in
+      let i = since_open false began since allowed none tt in
       record {
         accepted = i.accepted;
         acted = i.acted;
@@ -269,6 +330,18 @@ module _ (began : History) where
         settled = (i.more, i.settled, at_most_one h.ledger.is_open h.ledger.acted h.ledger.late h.ledger.ahead i.rest i.more i.stand);
       }
 
+  pub acted_first : (since : List Step) → AreAllowed since (steps_on Open began) → All BeginsNone since → AreTakenBackBetween since (steps_on Open began)
+      → AreActedFirst began (runs since (steps_on Open began))
+  acted_first since allowed none between =
+      let i = since_open true began since allowed none between in
+      record {
+        accepted = i.accepted;
+        acted = i.acted;
+        accepted_since = i.accepted_since;
+        acted_since = i.acted_since;
+        beginning = (i.rest, i.whole refl);
+      }
+
 -- ---- after any steps
 
 pub each_session_holds : EachSessionHolds
@@ -276,3 +349,9 @@ each_session_holds before since allowed none =
     let began = runs before new_history in
     subst (λ (h : History). HoldsInSession began h) (sym (runs_then before (Open ∷ since) new_history))
     (holds began since (allowed_second before (Open ∷ since) new_history allowed).1 none)
+
+pub orders_are_a_beginning : OrdersAreABeginning
+orders_are_a_beginning before since allowed none between =
+    let began = runs before new_history in
+    subst (λ (h : History). AreActedFirst began h) (sym (runs_then before (Open ∷ since) new_history))
+    (acted_first began since (allowed_second before (Open ∷ since) new_history allowed).1 none between)

@@ -7,12 +7,18 @@ ghost use Rattle.osdp_ledger_laws.specs.Lapses.{LapsedIsReportedNoMore};
 ghost use Rattle.osdp_ledger_laws.specs.Laws.{ActsOrOffers, PlainEndsAreTold, ReportsOnceASession, SkipsNoNeighbour};
 ghost use Rattle.osdp_ledger_laws.specs.Reports.{EachSessionReports, ReportsAreABeginning};
 ghost use Rattle.osdp_ledger_laws.specs.Runs.{MoreStepsHappen};
-ghost use Rattle.osdp_ledger_laws.specs.Sessions.{EachSessionHolds, OneSessionCounts};
+ghost use Rattle.osdp_ledger_laws.specs.Sessions.{EachSessionHolds, OneSessionCounts, OrdersAreABeginning};
 
 /// In each session, whatever happens before it and in it: the orders that the device has acted on are a beginning of those that waited as it began and of those
-/// accepted since, and hold each settled one, with the device's answer, and at most one more.
+/// accepted since, without some that were given back. They hold each settled one, with the device's answer, and at most one more.
 pub fn each_session_holds()
     ensures { EachSessionHolds }
+{}
+
+/// Where no order is taken back while the session is under way, none is missing: the orders that the device has acted on in it are a beginning of those that waited
+/// as it began and of those accepted since. Once it is over orders may be taken back, and either end may lose power.
+pub fn orders_are_a_beginning()
+    ensures { OrdersAreABeginning }
 {}
 
 /// In a session the first events are reported, in order, but for some given up or lost. They are the first of those that waited in the device's queue as it
@@ -64,7 +70,8 @@ pub fn plain_ends_are_told()
 }
 
 /// Plain steps happen, and steps by which the device keeps its power. The next event may be offered after one that was reported and has lapsed, and the
-/// panel may lose power while a session is under way and no order is on the wire.
+/// panel may lose power while a session is under way and no order is on the wire. An order may be taken back while a session is under way, and the device acts
+/// on the next one.
 pub fn more_steps_happen()
     ensures { MoreStepsHappen }
 {}

@@ -13,8 +13,6 @@ pub use Rattle.osdp_frame.specs.Receiving.{ends_run, IsAllRead, IsReceived, Rece
 pub use Rattle.osdp_frame_laws.proofs.InTurn.{all_taken, item_leaves, item_read, none_left, over_items, over_leaves, piece_read, piece_some, piece_taken, PieceTaken}
 pub use Rattle.osdp_bus.specs.Entries.{first_from, is_at}
 pub use Rattle.osdp_line_calls.specs.Passing.{acts_on, acts_on_reason, Listening, number_text, opening_acts_on, passed_item, passed_items, passed_reading, passed_text}
-pub use Rattle.osdp_line_calls.specs.OrderedLines.{Ends, refuses}
-pub use Rattle.osdp_line_calls.specs.OrderedPanels.{after_text, Called, Comes, ended, new_ordered, Ordered, plain_of, then_reports, with_orders}
 pub use Rattle.osdp_bus.specs.Deadlines.{IsDeadline}
 pub use Rattle.osdp_msg.specs.declared.command.Command.{Command}
 pub use Rattle.osdp_msg.specs.CommandTable.{CommandFits}

@@ -5,7 +5,6 @@ pub mod ReaderCalls
 pub mod LettingGo
 pub mod PanelRows
 pub mod PanelCalls
-mod OrderedCalls
 mod Listening
 pub mod PassedOver
 pub mod Ranges

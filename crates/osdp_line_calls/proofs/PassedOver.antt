@@ -107,6 +107,7 @@ waiting_at address = record {
   config = default_config address Crc;
   state = Waiting 1 1 opening;
   number = 0;
+  asked = false;
   greatest = 0;
 }
 

@@ -2,10 +2,11 @@
 use Rattle.osdp_line_calls.proofs.Common.{◌≡◌, Bool, true, false, refl, subst, ap, arith, Some, None, if◌then◌else◌, Crc, IsBusConfig, IsConfig, some_same}
 use Rattle.osdp_bus.specs.declared.config.BusConfig.{BusConfig}
 use Rattle.osdp_bus.proofs.Defaults as by_default
+use Rattle.osdp_bus.specs.Settings.{default_config}
 use Rattle.osdp_msg.specs.declared.limits.Room.{Room}
 use Rattle.osdp_msg.specs.Limits.{room_for}
 use Rattle.osdp_line_calls.specs.declared.panel_command.PanelSetting.{PanelSetting}
-use Rattle.osdp_line_calls.specs.declared.panel_command.PanelSetting.TheVariants.{Check, ReplyWait, PollInterval, Sends, BusyWait, BusyLimit, QuietWait, Gap, Capacity, PollBetweenOrders}
+use Rattle.osdp_line_calls.specs.declared.panel_command.PanelSetting.TheVariants.{Check, ReplyWait, PollInterval, Sends, BusyWait, BusyLimit, QuietWait, Gap, Capacity}
 use Rattle.osdp_line_calls.specs.declared.reader_command.ReaderSetting.{ReaderSetting}
 use Rattle.osdp_line_calls.specs.declared.reader_command.ReaderSetting.TheVariants as reader
 use Rattle.osdp_line_calls.specs.declared.reader_command.ReaderSettings.{ReaderSettings}
@@ -22,6 +23,7 @@ with_config : (c d : BusConfig) → IsBusConfig c → IsConfig (record {
   busy_wait = d.busy_wait;
   busy_limit = d.busy_limit;
   quiet_wait = d.quiet_wait;
+  poll_between_orders = d.poll_between_orders;
 }) → d.gap ≡ c.gap → d.room ≡ c.room → IsBusConfig d
 with_config c d h config gap room = record {
   controllers =
@@ -60,7 +62,6 @@ set_in_range (QuietWait n) c fits h =
     with_config c _ h (record { address = k.address; reply_wait = k.reply_wait; poll_interval = k.poll_interval; busy_wait = k.busy_wait; quiet_wait = fits; sends = k.sends; busy_limit = k.busy_limit }) refl refl
 set_in_range (Gap n) c fits h = record { controllers = h.controllers; gap = fits }
 set_in_range (Capacity n) c fits h = record { controllers = record { config_in_range = h.controllers.config_in_range; room = fits.0; limit = fits.1; bytes = (omega (arith, fits.0), omega (arith, fits.1)) }; gap = h.gap }
-set_in_range (PollBetweenOrders on) c fits h = h
 
 -- ---- readers
 
@@ -81,7 +82,13 @@ put_in_range _ r e fits is h = subst of_reader.AreInRange (some_same _ e is) (re
 
 -- what is set without settings
 pub bus_in_range : IsBusConfig panel.defaults.config
-bus_in_range = by_default.bus_in_range Crc (room_for 64) 3 ((omega arith, omega arith), omega arith, omega arith) (omega arith, omega arith)
+bus_in_range =
+    let h : IsBusConfig (default_config Crc (room_for 64)) =
+    by_default.bus_in_range Crc (room_for 64) 3 ((omega arith, omega arith), omega arith, omega arith) (omega arith, omega arith) in
+    let k = h.controllers.config_in_range in
+    with_config (default_config Crc (room_for 64)) panel.defaults.config h
+    (record { address = k.address; reply_wait = k.reply_wait; poll_interval = k.poll_interval; busy_wait = k.busy_wait; quiet_wait = k.quiet_wait; sends = k.sends; busy_limit = k.busy_limit })
+    refl refl
 
 pub reader_in_range : of_reader.AreInRange of_reader.defaults
 reader_in_range = record { address = omega arith; room = (omega arith, omega arith); gap = (omega arith, omega arith); expire = omega arith }

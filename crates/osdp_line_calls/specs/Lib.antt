@@ -15,5 +15,3 @@ pub mod PanelSettings
 pub mod ReaderSettings
 pub mod Runs
 pub mod Calls
-pub mod OrderedPanels
-pub mod OrderedLines

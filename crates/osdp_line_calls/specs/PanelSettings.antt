@@ -1,5 +1,5 @@
 -- The settings of a panel: their words, and what each sets.
-use Rattle.std.specs.Prelude.{ℕ, ◌<◌, ◌^◌, Bool, false, List, codes, Option, Some}
+use Rattle.std.specs.Prelude.{ℕ, true, ◌<◌, ◌^◌, List, codes, Option, Some}
 use Rattle.osdp_bus.specs.declared.config.BusConfig.{BusConfig}
 use Rattle.osdp_bus.specs.Settings.{IsBusConfig, default_config}
 use Rattle.osdp_frame.specs.Times.{IsTime}
@@ -8,9 +8,8 @@ use Rattle.osdp_frame.specs.declared.check_kind.CheckKind.TheVariants.{Crc}
 use Rattle.osdp_frame.specs.Check.{check_name}
 use Rattle.osdp_words.specs.Word.{plain, number}
 use Rattle.osdp_line_calls.specs.declared.panel_command.PanelSetting.{PanelSetting}
-use Rattle.osdp_line_calls.specs.declared.panel_command.PanelSetting.TheVariants.{Check, ReplyWait, PollInterval, Sends, BusyWait, BusyLimit, QuietWait, Gap, Capacity, PollBetweenOrders}
+use Rattle.osdp_line_calls.specs.declared.panel_command.PanelSetting.TheVariants.{Check, ReplyWait, PollInterval, Sends, BusyWait, BusyLimit, QuietWait, Gap, Capacity}
 use Rattle.osdp_line_calls.specs.declared.panel_command.PanelSettings.{PanelSettings}
-use Rattle.osdp_settings.specs.Values.{switch_word}
 use Rattle.osdp_msg.specs.Limits.{room_for}
 use Rattle.osdp_line_calls.specs.Values.{IsSends}
 use Rattle.osdp_settings.specs.Settings.{Entry, Make, SettingFits, setting_words}
@@ -26,7 +25,6 @@ entry (BusyLimit n) = record { name = codes "busy-limit"; value = number n; Fits
 entry (QuietWait n) = record { name = codes "quiet-wait"; value = number n; Fits = IsTime n }
 entry (Gap n) = record { name = codes "gap"; value = number n; Fits = IsTime n }
 entry (Capacity n) = record { name = codes "capacity"; value = number n; Fits = IsRoom n }
-entry (PollBetweenOrders on) = record { name = codes "poll-between-orders"; value = switch_word on; Fits = Unit {0} }
 
 -- what it sets of the bus
 abbrev pub with_setting : PanelSetting → BusConfig → BusConfig
@@ -39,19 +37,13 @@ with_setting (BusyLimit n) c = record c { busy_limit = n }
 with_setting (QuietWait n) c = record c { quiet_wait = n }
 with_setting (Gap n) c = record c { gap = n }
 with_setting (Capacity n) c = record c { room = room_for n }
-with_setting (PollBetweenOrders on) c = c
-
--- .. and whether orders wait for POLLs
-abbrev pub with_switch : PanelSetting → Bool → Bool
-with_switch (PollBetweenOrders on) between = on
-with_switch _ between = between
 
 abbrev pub put : PanelSetting → PanelSettings → Option PanelSettings
-put s c = Some (record { config = with_setting s c.config; between = with_switch s c.between })
+put s c = Some (record { config = with_setting s c.config })
 
--- without settings packets end with a CRC, 64 commands may wait for each device, and no order waits for a POLL
+-- without settings packets end with a CRC, and 64 commands may wait for each device. A POLL stands between any two of its orders, which no setting changes
 abbrev pub defaults : PanelSettings
-defaults = record { config = default_config Crc (room_for 64); between = false }
+defaults = record { config = record (default_config Crc (room_for 64)) { poll_between_orders = true } }
 
 abbrev pub AreInRange : PanelSettings → Type 0
 AreInRange c = IsBusConfig c.config

@@ -3,14 +3,15 @@ use Rattle.std.specs.Prelude.{◌≡◌, ◌⊎◌, ℕ, false, List, Option, Re
 use Rattle.std.specs.Io.KnownBytes.{Keeps}
 use Rattle.osdp_line_answers.specs.Answers.{Answering}
 use Rattle.osdp_line_answers.specs.Ending.{Ends}
-use Rattle.osdp_line_calls.specs.OrderedLines.{Answers as PanelAnswers}
-use Rattle.osdp_line_calls.specs.OrderedPanels.{Ordered as PanelSession, new_ordered as new_panel}
+use Rattle.osdp_line_calls.specs.PanelLines.{Answers as PanelAnswers}
+use Rattle.osdp_line_calls.specs.PanelSessions.{Session as PanelSession, new_session}
 use Rattle.osdp_line_calls.specs.ReaderLines.{Answers as ReaderAnswers}
 use Rattle.osdp_line_calls.specs.ReaderSessions.{Session as ReaderSession, new_session as new_reader}
 use Rattle.osdp_tool_streams.specs.declared.fault.ToolFault.{ToolFault}
 use Rattle.osdp_tool_streams.specs.declared.fault.ToolFault.TheVariants.{BadWords, NoMemory}
 use Rattle.osdp_tool_streams.specs.Watched.{inner_of, has_failed}
 use Rattle.osdp_words.specs.Word.{texts}
+use Rattle.osdp_line_calls.specs.declared.panel_command.PanelSettings.{PanelSettings}
 use Rattle.osdp_line_calls.specs.declared.reader_command.ReaderSettings.{ReaderSettings}
 use Rattle.osdp_line_calls.specs.declared.run.LineRun.{LineRun}
 use Rattle.osdp_line_calls.specs.PanelSettings.{AreOfPanel}
@@ -57,6 +58,9 @@ module _ {M : Type 0} (IsSetBy : List (List ℕ) → M → Type 0) where
       IsRefused remaining contents before after result ⊎ IsRun remaining contents before after result answers
 
 -- a panel without devices, and a reader's device
+abbrev pub new_panel : PanelSettings → PanelSession
+new_panel settings = new_session settings.config
+
 abbrev pub IsPanelOf : List (List ℕ) → PanelSession → Type 0
 IsPanelOf = SetBy AreOfPanel new_panel
 

@@ -18,8 +18,7 @@
 //!                                 due 600
 //! ```
 //!
-//! `LineDevice`, `LinePanel` and `OrderedPanel`, whose orders may wait for POLLs, are each a `LineMachine`: `answer_line` answers a line, and their
-//! `answer` a call. What they answer is the definitions in `specs/`, over those of `osdp_device` and `osdp_bus`. `answer_lines` of
+//! `LineDevice` and `LinePanel` are each a `LineMachine`: `answer_line` answers a line, and their `answer` a call. What they answer is the definitions in `specs/`, over those of `osdp_device` and `osdp_bus`. `answer_lines` of
 //! `osdp_line_answers` reads to the end of an input, and answers each line at once.
 //!
 //! The commands `panel` and `reader` have settings, as the words after their names: a name and its value, in any order, and each has a default; where
@@ -35,7 +34,6 @@ mod call;
 pub mod laws;
 mod listener;
 mod machine;
-mod ordered_panel;
 mod panel_call;
 mod panel_command;
 mod panel_machine;
@@ -54,7 +52,6 @@ mod words;
 
 pub use call::{LineCall, read_line};
 pub use machine::LineMachine;
-pub use ordered_panel::OrderedPanel;
 pub use osdp_line_answers::{LineAnswerer, answer_lines};
 pub use osdp_msg::{KeptCommand, KeptEvent};
 pub use osdp_settings::WrongSetting;

@@ -4,19 +4,19 @@ ghost use Rattle.std.specs.Prelude.{◌≡◌, ◌∷◌, [], IfErr, IfOk};
 ghost use Rattle.std.specs.Result.{result_ok};
 ghost use Rattle.osdp_words.specs.Reading.{ReadsWords};
 ghost use Rattle.osdp_words.specs.Word.{texts};
-ghost use Rattle.osdp_line_calls.specs.PanelSettings.{AreInRange, defaults, entry, put, with_setting, with_switch};
+ghost use Rattle.osdp_line_calls.specs.PanelSettings.{AreInRange, defaults, entry, put, with_setting};
 ghost use Rattle.osdp_msg.specs.Limits.{room_for};
 ghost use Rattle.osdp_line_calls.specs.Runs.{IsPanelOf};
 ghost use Rattle.osdp_settings.specs.Settings.{ReadsSettings, SettingFits, setting_words};
 ghost use Rattle.osdp_settings.specs.Wrong.{IsWrong};
 
-use crate::ordered_panel::OrderedPanel;
+use crate::panel_session::LinePanel;
 use crate::run::LineCommand;
 use crate::values::{room, sends, time};
 use osdp_bus::BusConfig;
 use osdp_frame::CheckKind;
 use osdp_msg::Room;
-use osdp_settings::{Configured, WrongSetting, read_settings, read_switch};
+use osdp_settings::{Configured, WrongSetting, read_settings};
 use osdp_tool_streams::ToolFault;
 use osdp_words::number_u8;
 use std::alloc::Global;
@@ -42,8 +42,6 @@ pub enum PanelSetting {
     Gap(u32),
     /// `capacity`: how many commands may wait for each device, 1 to 1024.
     Capacity(u32),
-    /// `poll-between-orders`: whether the next order of a device goes out only once a POLL was answered since the order before it, `on` or `off`.
-    PollBetweenOrders(bool),
 }
 
 impl PanelSetting {
@@ -61,7 +59,6 @@ impl PanelSetting {
             "quiet-wait" => Some(PanelSetting::QuietWait(time(value)?)),
             "gap" => Some(PanelSetting::Gap(time(value)?)),
             "capacity" => Some(PanelSetting::Capacity(room(value)?)),
-            "poll-between-orders" => Some(PanelSetting::PollBetweenOrders(read_switch(value)?)),
             _ => None,
         }
     }
@@ -80,28 +77,15 @@ impl PanelSetting {
             PanelSetting::QuietWait(wait) => config.quiet_wait = wait,
             PanelSetting::Gap(wait) => config.gap = wait,
             PanelSetting::Capacity(count) => config.room = Room::of(count as usize),
-            PanelSetting::PollBetweenOrders(_) => {}
-        }
-    }
-
-    /// Whether orders wait for POLLs after it.
-    fn switched(self, between: bool) -> bool
-        ensures { result ≡ with_switch self between }
-    {
-        match self {
-            PanelSetting::PollBetweenOrders(on) => on,
-            _ => between,
         }
     }
 }
 
-/// The settings of a panel, which words set.
+/// The settings of a panel, which words set. A POLL stands between any two orders of a device, whatever the words are.
 #[derive(Clone, Copy, Debug, PartialEq, Eq, Drop)]
 pub struct PanelSettings {
     /// The settings of its bus.
     pub config: BusConfig,
-    /// Whether the next order of a device goes out only once a POLL was answered since the order before it.
-    pub between: bool,
 }
 
 impl Configured for PanelSettings {
@@ -116,10 +100,9 @@ impl Configured for PanelSettings {
     ghost is_in_range = { AreInRange };
 
     fn default_settings() -> PanelSettings {
-        PanelSettings {
-            config: BusConfig::new(CheckKind::Crc, Room::of(64)),
-            between: false,
-        }
+        let mut config = BusConfig::new(CheckKind::Crc, Room::of(64));
+        config.poll_between_orders = true;
+        PanelSettings { config }
     }
 
     fn parse(name: &str, value: &str) -> Option<PanelSetting> {
@@ -129,7 +112,6 @@ impl Configured for PanelSettings {
     fn set(self, setting: PanelSetting) -> Option<PanelSettings> {
         let mut settings = self;
         setting.set(&mut settings.config);
-        settings.between = setting.switched(settings.between);
         Some(settings)
     }
 }
@@ -144,14 +126,14 @@ pub fn panel_settings<'a>(words: &'a [&'a str]) -> Result<PanelSettings, WrongSe
     read_settings(words)
 }
 
-impl LineCommand for OrderedPanel {
+impl LineCommand for LinePanel {
     ghost is_set_by = { IsPanelOf };
 
-    fn of_words(alloc: Global, words: &[&str]) -> Result<OrderedPanel, ToolFault> {
+    fn of_words(alloc: Global, words: &[&str]) -> Result<LinePanel, ToolFault> {
         let Ok(settings) = panel_settings(words) else {
             return Err(ToolFault::BadWords);
         };
-        match OrderedPanel::new(alloc, settings) {
+        match LinePanel::new(alloc, settings.config) {
             Ok(panel) => Ok(panel),
             Err(_) => Err(ToolFault::NoMemory),
         }

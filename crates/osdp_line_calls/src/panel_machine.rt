@@ -9,7 +9,8 @@ use crate::call::LineCall;
 use crate::machine::LineMachine;
 use crate::panel_call::{PanelCall, parse_row};
 use crate::panel_session::LinePanel;
-use std::alloc::AllocError;
+use osdp_line_answers::LineAnswerer;
+use std::alloc::{AllocError, Global};
 
 impl LineCall for PanelCall {
     ghost words_of = { call_words };
@@ -45,5 +46,20 @@ impl LineMachine for LinePanel {
 
     fn refuse_line(&mut self, text: &mut String) -> Result<(), AllocError> {
         self.refuse(text)
+    }
+}
+
+impl LineAnswerer for LinePanel {
+    ghost answers = { Answers };
+
+    ghost is_ready = { λ p. Unit {0} };
+
+    fn answer_line(
+        &mut self,
+        alloc: Global,
+        line: &[u8],
+        text: &mut String,
+    ) -> Result<(), AllocError> {
+        LineMachine::answer_line(self, alloc, line, text)
     }
 }

@@ -5,7 +5,7 @@ ghost use Rattle.osdp_words.specs.Word.{texts};
 ghost use Rattle.osdp_line_calls.specs.Runs.{HasNotFailed, Runs, RunsPanel, RunsReader, SetsNone};
 
 use crate::machine::LineMachine;
-use crate::ordered_panel::OrderedPanel;
+use crate::panel_session::LinePanel;
 use crate::reader_session::LineDevice;
 use osdp_line_answers::{LineAnswerer, answer_lines};
 use osdp_tool_streams::{ToolFault, Watched};
@@ -58,7 +58,7 @@ pub fn panel_lines<R: Read, W: Write>(run: &mut LineRun<'_, R, W>) -> Result<(),
     ensures run { RunsPanel R.remaining W.contents run.old run.new result }
     ensures words { run.new.words ≡ run.old.words }
 {
-    run_lines::<OrderedPanel, R, W>(run)
+    run_lines::<LinePanel, R, W>(run)
 }
 
 /// The run of a reader's device.

@@ -1,10 +1,11 @@
 -- What the words of a command decide of its run.
-use Rattle.osdp_line_laws.proofs.Common.{◌≡◌, inl, inr, ℕ, List, Option, Result, Ok, Err, refl, subst, Answering, Speaks, PanelAnswers, new_ordered, ReaderAnswers}
+use Rattle.osdp_line_laws.proofs.Common.{◌≡◌, inl, inr, ℕ, List, Option, Result, Ok, Err, refl, subst, Answering, Speaks, ReaderAnswers}
 use Rattle.osdp_line_answers.specs.Ending.{Ends}
 use Rattle.osdp_line_calls.specs.declared.run.LineRun.{LineRun}
 use Rattle.osdp_line_calls.specs.PanelSettings.{AreOfPanel}
 use Rattle.osdp_line_calls.specs.ReaderSettings.{AreOfReader}
-use Rattle.osdp_line_calls.specs.Runs.{Runs, SetBy, new_device}
+use Rattle.osdp_line_calls.specs.PanelLines.{Answers as PanelAnswers}
+use Rattle.osdp_line_calls.specs.Runs.{Runs, SetBy, new_device, new_panel}
 use Rattle.osdp_line_laws.specs.Commands.{AnswersItsInput, DevicesGoByWords, GoesByItsWords, PanelsGoByWords}
 use Rattle.osdp_tool_streams.specs.Cut.{lines_of}
 use Rattle.osdp_tool_streams.specs.Watched.{has_failed, inner_of}
@@ -66,7 +67,7 @@ module _ {C M : Type 0} (AreSettings : List (List ℕ) → C → Type 0) (new : 
   }
 
 pub panels_go_by_words : {I O : Type 0} (remaining : I → Option (List ℕ)) (contents : O → Option (List ℕ)) → PanelsGoByWords remaining contents
-panels_go_by_words remaining contents before after result runs = goes_by_words AreOfPanel new_ordered PanelAnswers remaining contents before after result runs
+panels_go_by_words remaining contents before after result runs = goes_by_words AreOfPanel new_panel PanelAnswers remaining contents before after result runs
 
 pub devices_go_by_words : {I O : Type 0} (remaining : I → Option (List ℕ)) (contents : O → Option (List ℕ)) → DevicesGoByWords remaining contents
 devices_go_by_words remaining contents before after result runs = goes_by_words AreOfReader new_device ReaderAnswers remaining contents before after result runs

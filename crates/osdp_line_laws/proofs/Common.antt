@@ -19,8 +19,6 @@ pub use Rattle.osdp_line_calls.specs.PanelSessions.{answered, Called, ended, IsD
 pub use Rattle.osdp_line_laws.specs.PanelLines.{Calls, calls_text, kept_back, ordered, Refused}
 pub use Rattle.osdp_line_laws.specs.PanelRuns.{after_said, calls_of, listening_after, moment_after, RunsAreCalls, said_text, Tells}
 pub use Rattle.osdp_line_answers.specs.Answers.{Answering, heard, Speaks}
-pub use Rattle.osdp_line_calls.specs.OrderedLines.{Answers as PanelAnswers}
-pub use Rattle.osdp_line_calls.specs.OrderedPanels.{new_ordered}
 pub use Rattle.osdp_line_calls.specs.ReaderLines.{Answers as ReaderAnswers}
 pub use Rattle.osdp_msg.specs.declared.command.Command.{Command}
 pub use Rattle.osdp_bus_laws.proofs.Ordering.{elsewhere_same, nowhere_stays, order_made}

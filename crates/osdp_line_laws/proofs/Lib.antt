@@ -3,7 +3,6 @@ pub mod Lines
 pub mod OfPanels
 pub mod OfReaders
 pub mod PanelRuns
-pub mod Ordered
 pub mod ReaderRuns
 mod OneSession
 mod Openness

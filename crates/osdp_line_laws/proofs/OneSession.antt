@@ -17,6 +17,7 @@ use Rattle.osdp_msg.specs.declared.command_fields.Communication.{Communication}
 use Rattle.osdp_msg.specs.declared.reply.Reply.{Reply}
 use Rattle.osdp_msg.specs.declared.reply_fields.PdId.{PdId}
 use Rattle.osdp_msg.specs.Events.{event_in}
+use Rattle.osdp_controller.proofs.Idling.{idle_way}
 
 -- an exchange of an open session is no opening
 abbrev pub is_asked : Exchange → Bool
@@ -123,9 +124,7 @@ abbrev TickedAs : Bool → Ticked → Type 0
 TickedAs was t = open_in t.session.state ≡ open_told t.step.report was
 
 idle_as : (waiting : List Command) (due : ℕ) (s : Session) → open_in s.state ≡ true → TickedAs true (idle_ticks waiting due s)
-idle_as (command ∷ rest) due s is = refl
-idle_as [] due s is =
-    either_way (TickedAs true) (nat_le due s.greatest) (begins Polling (next_sequence s.number) s []) (stays s []) (λ h. refl) (λ h. is)
+idle_as waiting due s is = idle_way (TickedAs true) due s waiting (λ h. refl) (λ h. is) (λ command rest e. refl)
 
 again_as : (sends : ℕ) (o : Outstanding) (s : Session) (waiting : List Command) → TickedAs (is_asked o.exchange) (tries_again sends o s waiting)
 again_as sends o s waiting =

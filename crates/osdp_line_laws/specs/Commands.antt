@@ -3,12 +3,11 @@ use Rattle.std.specs.Prelude.{◌≡◌, ℕ, false, List, Option, Result, Ok, E
 use Rattle.std.specs.Io.KnownBytes.{Appends, Consumes, IsAtEnd, Keeps}
 use Rattle.osdp_line_answers.specs.Answers.{Answering, Speaks}
 use Rattle.osdp_line_calls.specs.declared.run.LineRun.{LineRun}
-use Rattle.osdp_line_calls.specs.OrderedLines.{Answers as PanelAnswers}
-use Rattle.osdp_line_calls.specs.OrderedPanels.{new_ordered}
+use Rattle.osdp_line_calls.specs.PanelLines.{Answers as PanelAnswers}
 use Rattle.osdp_line_calls.specs.PanelSettings.{AreOfPanel}
 use Rattle.osdp_line_calls.specs.ReaderLines.{Answers as ReaderAnswers}
 use Rattle.osdp_line_calls.specs.ReaderSettings.{AreOfReader}
-use Rattle.osdp_line_calls.specs.Runs.{RunsPanel, RunsReader, new_device}
+use Rattle.osdp_line_calls.specs.Runs.{RunsPanel, RunsReader, new_device, new_panel}
 use Rattle.osdp_tool_streams.specs.Cut.{lines_of}
 use Rattle.osdp_tool_streams.specs.Watched.{has_failed, inner_of}
 use Rattle.osdp_tool_streams.specs.declared.fault.ToolFault.{ToolFault}
@@ -45,7 +44,7 @@ module _ {C M : Type 0} (AreSettings : List (List ℕ) → C → Type 0) (new : 
 abbrev pub PanelsGoByWords : {I O : Type 0} → (I → Option (List ℕ)) → (O → Option (List ℕ)) → Type 0
 PanelsGoByWords {I} {O} remaining contents = (before after : LineRun I O) (result : Result (Unit {0}) ToolFault)
     → RunsPanel remaining contents before after result
-    → GoesByItsWords AreOfPanel new_ordered PanelAnswers remaining contents before after result
+    → GoesByItsWords AreOfPanel new_panel PanelAnswers remaining contents before after result
 
 abbrev pub DevicesGoByWords : {I O : Type 0} → (I → Option (List ℕ)) → (O → Option (List ℕ)) → Type 0
 DevicesGoByWords {I} {O} remaining contents = (before after : LineRun I O) (result : Result (Unit {0}) ToolFault)

@@ -5,6 +5,5 @@ pub mod OldEvents
 pub mod PanelRuns
 pub mod ReaderRuns
 pub mod PanelListening
-pub mod OrderedLines
 pub mod Commands
 pub mod Sayings

@@ -7,7 +7,6 @@
 ghost use Rattle.osdp_line_laws.specs.Commands.{DevicesGoByWords, PanelsGoByWords};
 ghost use Rattle.osdp_line_laws.specs.Moments.{MomentsAlwaysGoOn};
 ghost use Rattle.osdp_line_laws.specs.OldEvents.{OldEventsAlwaysLeave};
-ghost use Rattle.osdp_line_laws.specs.OrderedLines.{ComeOfOrdersCalls, IsOrdersCallOrNone, WithoutTheSetting};
 ghost use Rattle.osdp_line_laws.specs.PanelLines.{ComesOfCalls, IsCallOrNone};
 ghost use Rattle.osdp_line_laws.specs.PanelListening.{ListensAlways};
 ghost use Rattle.osdp_line_laws.specs.PanelRuns.{RunsAreCalls as PanelRunsAreCalls};
@@ -28,13 +27,13 @@ pub fn a_devices_words_decide<R: Read, W: Write>()
     ensures { DevicesGoByWords R.remaining W.contents }
 {}
 
-/// A line to a panel is one call of its bus at most, and then the taking of the report that waits. What is written is what the bus refuses, sends and
+/// A line to a panel whose orders wait for no POLLs is one call of its bus at most, and then the taking of the report that waits. What is written is what the bus refuses, sends and
 /// reports by that, after what it lets be heard beside the bus, and the moment of the next tick. A line that is none changes nothing.
 pub fn a_line_is_a_call()
     ensures { IsCallOrNone }
 {}
 
-/// Lines to a new panel come to a list of calls of a new bus, so what the bus keeps after every list of calls holds after them.
+/// Lines to a new panel whose orders wait for no POLLs come to a list of calls of a new bus, so what the bus keeps after every list of calls holds after them.
 pub fn a_panel_comes_of_calls()
     ensures { ComesOfCalls }
 {}
@@ -58,7 +57,7 @@ pub fn a_device_comes_of_steps()
     ensures { ComesOfSteps }
 {}
 
-/// To each line of a run, from the first to the last, a panel writes what is told of the calls that the line is. Before that comes what the line lets be
+/// To each line of a run, from the first to the last, a panel whose orders wait for no POLLs writes what is told of the calls that the line is. Before that comes what the line lets be
 /// heard beside the bus, and after it the moment of the next tick. Each call finds the panel as the calls before it have left it. After them it is the
 /// panel that these calls leave, and its calls to come have the moment of the last line of one.
 pub fn a_panels_run_is_its_calls()
@@ -76,23 +75,6 @@ pub fn a_devices_run_is_its_calls()
 /// tells as passed over does nothing to its device, as the device stands, but bring the moment.
 pub fn panels_listen_as_their_bus()
     ensures { ListensAlways }
-{}
-
-/// A line to a panel whose orders may wait for POLLs is one call of its orders and its bus at most, and then the taking of the report that waits. A line that is
-/// none changes nothing.
-pub fn a_line_is_a_call_of_orders()
-    ensures { IsOrdersCallOrNone }
-{}
-
-/// Lines to a new panel whose orders may wait come to a list of calls of new orders and a new bus. So what is so after every list of them is so after any lines:
-/// with the setting a POLL is answered between two orders of a device.
-pub fn an_ordered_panel_comes_of_calls()
-    ensures { ComeOfOrdersCalls }
-{}
-
-/// Where orders don't wait for POLLs, a run of lines is answered as by a panel that holds no order back. So what the laws say of such runs they say of this one.
-pub fn without_the_setting_a_panel_answers_as_before()
-    ensures { WithoutTheSetting }
 {}
 
 /// A line of a run counts as no call exactly where there is no call that it says, to a panel and to a reader's device.

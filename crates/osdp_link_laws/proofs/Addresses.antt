@@ -1,6 +1,6 @@
 -- Without a COMSET neither end goes to another address.
 use Rattle.std.proofs.Common.{◌≡◌, ◌+◌, ℕ, Bool, true, false, arith, leb, ltb, List, [], ◌∷◌, ◌++◌, Option, Some, None, IfSome, Ok, refl, sym, subst}
-use Rattle.osdp_link_laws.proofs.Common.{append-nil, option_to_list, Packet, next_sequence, CommandFits, Command, Communication, Event, Reply, PdId, said_by, exchange_command, Heard, answered, answered_unread, com_of, command_answered, comset_of, hears, hears_busy, hears_in, ignores, is_from_reader, is_numbered, loses, moved_by, opening_answered, pausing_hears, pd_id_of, waiting_hears, later, seen, Ticked, begins, gives_up, sends_frame, stays, ticks_in, tries_again, ReplyMeaning, NotTaken, Damaged, NumberRefused, Plain, Unreadable, Exchange, Opening, Polling, Asking, Outstanding, ControllerFault, TooBusy, Session, State, Closed, Quiet, Idle, Waiting, Pausing, Outcome, begun, command_in, moved, new_address, outcome, taken, ReaderState, Answer, Kind, lacks_room, MovesFit, MoveFits, MaySubmit, Delivered, Delivery, Link, Lost, Move, QueueEvent, Reopen, Repeated, RestartController, RestartReader, Retarget, Submit, Tick, ToController, ToReader, Withdraw, after_move, run, LoseToReader, lost_at, ReadsWhatIsAsked, SetsNoAddress, SetsNoOther, StayWhereTheyAre, all_submitted, submitted}
+use Rattle.osdp_link_laws.proofs.Common.{append-nil, option_to_list, Packet, next_sequence, CommandFits, Command, Communication, Event, Reply, PdId, said_by, exchange_command, Heard, answered, answered_unread, com_of, command_answered, comset_of, hears, hears_busy, hears_in, ignores, is_from_reader, is_numbered, loses, moved_by, opening_answered, pausing_hears, pd_id_of, waiting_hears, later, seen, Ticked, begins, idle_way, gives_up, sends_frame, stays, ticks_in, tries_again, ReplyMeaning, NotTaken, Damaged, NumberRefused, Plain, Unreadable, Exchange, Opening, Polling, Asking, Outstanding, ControllerFault, TooBusy, Session, State, Closed, Quiet, Idle, Waiting, Pausing, Outcome, begun, command_in, moved, new_address, outcome, taken, ReaderState, Answer, Kind, lacks_room, MovesFit, MoveFits, MaySubmit, Delivered, Delivery, Link, Lost, Move, QueueEvent, Reopen, Repeated, RestartController, RestartReader, Retarget, Submit, Tick, ToController, ToReader, Withdraw, after_move, run, LoseToReader, lost_at, ReadsWhatIsAsked, SetsNoAddress, SetsNoOther, StayWhereTheyAre, all_submitted, submitted}
 use Rattle.osdp_controller.specs.Machine as controllers
 use Rattle.osdp_reader.specs.Table as reader
 use Rattle.osdp_reader.specs.declared.kind.Kind.TheVariants as kind
@@ -8,6 +8,7 @@ use Rattle.osdp_link_laws.specs.Link as link
 use Rattle.osdp_link_laws.specs.Sessions as sessions
 use Rattle.osdp_link_laws.proofs.Answering.{no_address}
 use Rattle.osdp_link_laws.proofs.Lines.{both, each_append, each_front, each_of, each_rest, each_lost}
+use Rattle.osdp_link_laws.proofs.OnItsWay.{withdrawn_first}
 use Rattle.osdp_link_laws.proofs.Settling.{MovesNone, stays_put}
 use Rattle.osdp_link_laws.proofs.Stages.{Each}
 
@@ -52,12 +53,14 @@ module _ (reads : ReadsWhatIsAsked) (address : ℕ) where
   tick_well Closed s waiting asks is all = resting s waiting is all
   tick_well (Quiet until) s waiting asks is all =
       both TickedWell (leb until s.greatest) (begins Opening 0 s waiting) (stays s waiting)
-      (sending 1 (record { exchange = Opening; busies = 0; sent = 0 }) (record s { number = 0 }) waiting (tt, omega arith) is.1 all) (resting s waiting is all)
-  tick_well (Idle due) s [] asks is all =
-      both TickedWell (leb due s.greatest) (begins Polling (next_sequence s.number) s []) (stays s [])
-      (sending 1 (record { exchange = Polling; busies = 0; sent = 0 }) (record s { number = next_sequence s.number }) [] (tt, tt) is.1 all) (resting s [] is all)
-  tick_well (Idle due) s (c ∷ rest) asks is all =
-      sending 1 (record { exchange = Asking c; busies = 0; sent = 0 }) (record s { number = next_sequence s.number }) rest (all.0.0, all.0.1) is.1 all.1
+      (sending 1 (record { exchange = Opening; busies = 0; sent = 0 }) (record s { number = 0; asked = false }) waiting (tt, omega arith) is.1 all) (resting s waiting is all)
+  tick_well (Idle due) s waiting asks is all =
+      idle_way TickedWell due s waiting
+      (λ e. sending 1 (record { exchange = Polling; busies = 0; sent = 0 }) (record s { number = next_sequence s.number; asked = false }) waiting (tt, tt) is.1 all)
+      (λ e. resting s waiting is all)
+      (λ c rest e.
+      let kept = subst (Each IsKept) e all in
+      sending 1 (record { exchange = Asking c; busies = 0; sent = 0 }) (record s { number = next_sequence s.number; asked = true }) rest (kept.0.0, kept.0.1) is.1 kept.1)
   tick_well (Waiting until k o) s waiting asks is all =
       both TickedWell (leb until s.greatest) (tries_again k o s waiting) (stays s waiting)
       (both TickedWell (ltb k s.config.sends) (sends_frame (k + 1) o s waiting) (gives_up o s waiting)
@@ -229,9 +232,8 @@ module _ {H : Type 0} (answer_of : H → Command → Answer) (after : H → Comm
 
     -- a command that is withdrawn leaves the others
     kept_well : (state : State) (ws : List Command) → Each IsKept ws → Each IsKept (controllers.kept_in state ws)
-    kept_well Closed [] all = tt
-    kept_well Closed (w ∷ ws) all = all.1
-    kept_well _ ws all = all
+    kept_well state ws all =
+        each_rest IsKept (option_to_list (controllers.withdrawn_in state ws)) (controllers.kept_in state ws) (subst (Each IsKept) (sym (withdrawn_first state ws)) all)
 
     retargets_keep : (refusal : Option ControllerFault) (address : ℕ) (l : Link H) → address ≡ here → Keeps l → Keeps (link.retargets refusal address l)
     retargets_keep (Some fault) address l same h = h

@@ -1,6 +1,6 @@
 -- Rounds without losses, from the first: what they settle and report, exactly.
-use Rattle.std.proofs.Common.{◌≡◌, ◌≢◌, ◌≤◌, ◌-◌, ℕ, zero, suc, arith, Bool, true, false, if◌then◌else◌, List, [], ◌∷◌, ◌++◌, length, take, drop, Option, Some, None, refl, sym, subst, ap, ◌∙◌, append_assoc}
-use Rattle.osdp_link_laws.proofs.Common.{le-leb, append-nil, length-take, IfSome, min, option_to_list, Command, Event, event_reply, submit_refusal, later_by, seen, is_closed, moment_of, begins, poll_told, stays, ticks, ticks_in, ControllerConfig, Polling, ControllerFault, Report, Session, Quiet, Idle, next_sequence, exchange_command, ReaderState, answer_to, event_or_answer, ReaderConfig, Answer, MovesFit, MaySubmit, Link, Move, QueueEvent, Submit, outstanding_command, run, with_answers, ReadEachOther, SetsNoAddress, Told, all_taken, nothing_told, reports, with_reports, round, rounds}
+use Rattle.std.proofs.Common.{◌≡◌, ◌≢◌, ◌≤◌, ◌-◌, ℕ, zero, suc, arith, Bool, true, false, List, [], ◌∷◌, ◌++◌, length, take, drop, Option, Some, None, refl, sym, subst, ap, ◌∙◌, append_assoc}
+use Rattle.osdp_link_laws.proofs.Common.{leb-false, append-nil, length-take, IfSome, min, option_to_list, Command, Event, event_reply, submit_refusal, later_by, seen, is_closed, moment_of, idle_way, poll_told, ticks, ticks_in, ControllerConfig, ControllerFault, Report, Session, Quiet, Idle, exchange_command, ReaderState, answer_to, event_or_answer, ReaderConfig, Answer, MovesFit, MaySubmit, Link, Move, QueueEvent, Submit, outstanding_command, run, with_answers, ReadEachOther, SetsNoAddress, Told, all_taken, nothing_told, reports, with_reports, round, rounds}
 use Rattle.osdp_msg.specs.declared.command.Command.TheVariants as command
 use Rattle.osdp_reader.specs.Queue.{Queue, event_for, offering, queued, released, lacks_room}
 use Rattle.osdp_link_laws.specs.Clean.{AreSpaced, GoesInTurn, IsInTurn, IsOrder}
@@ -23,11 +23,10 @@ none_of : {A : Type 0} (n : ℕ) → take {A = A} n [] ≡ []
 none_of zero = refl
 none_of (suc n) = refl
 
--- a controller at rest acts once its POLL is due, or where a command waits
+-- a controller at rest acts once its POLL is due
 rest_acts : (due : ℕ) (s : Session) (waiting : List Command) → due ≤ s.greatest → Acts (ticks_in (Idle due) s waiting)
-rest_acts due s [] reached =
-    subst (λ b. Acts (if b then begins Polling (next_sequence s.number) s [] else stays s [])) (sym (le-leb due s.greatest reached)) refl
-rest_acts due s (c ∷ waiting) reached = refl
+rest_acts due s waiting reached =
+    idle_way Acts due s waiting (λ e. refl) (λ e. absurd (let ahead = leb-false due s.greatest e in omega (arith, ahead, reached))) (λ c rest e. refl)
 
 -- its next POLL is due after the interval
 abbrev RestsFor : Session → Type 0
@@ -208,13 +207,13 @@ module _ (fixed : ControllerConfig) {H : Type 0} (answer_of : H → Command → 
       (rested_takes w may) (λ t. rested_tells given w events config handler more t may) made)
 
   -- each round is an exchange from rest
-  rounds_make : Given → (wait interval : ℕ) → interval ≤ wait → (moments : List ℕ) (l : Link H) → IsBetween interval l → AreSpaced answer_of after wait moments l
+  rounds_make : Given → fixed.poll_between_orders ≡ false → (wait interval : ℕ) → interval ≤ wait → (moments : List ℕ) (l : Link H) → IsBetween interval l → AreSpaced answer_of after wait moments l
       → MovesFit answer_of after (rounds moments) l → IsBetween interval (run answer_of after (rounds moments) l) × MadeOf (length moments) moments l
-  rounds_make given wait interval short [] l b spaced fits = (b, made_none l.controller.waiting (unreported l) l.reader.config l.reader.handler)
-  rounds_make given wait interval short (now ∷ later) l b spaced fits =
+  rounds_make given plain wait interval short [] l b spaced fits = (b, made_none l.controller.waiting (unreported l) l.reader.config l.reader.handler)
+  rounds_make given plain wait interval short (now ∷ later) l b spaced fits =
       let w = l.controller.waiting in
       let does = spaced_acts wait now l.controller.session w b.rests (omega (arith, short, b.keeps)) spaced.0 in
-      let is = idle_exchange fixed answer_of after given now l b.holds b.idle does fits.1.0 in
+      let is = idle_exchange fixed answer_of after given plain now l b.holds b.idle does fits.1.0 in
       let m = goes answer_of after now l in
       let next : IsBetween interval m = record {
         holds = held_after fixed answer_of after given now l fits.1.0 b.holds;
@@ -222,7 +221,7 @@ module _ (fixed : ControllerConfig) {H : Type 0} (answer_of : H → Command → 
         rests = subst (λ g. RestsFor g.next.controller.session) (sym is) refl;
         keeps = ap (λ g. g.next.controller.session.config.poll_interval) is ∙ b.keeps;
       } in
-      let rest = rounds_make given wait interval short later m next spaced.1 fits.1.1.1 in
+      let rest = rounds_make given plain wait interval short later m next spaced.1 fits.1.1.1 in
       (rest.0, went_more given now later l b.holds.holds.2.waiting is rest.1)
 
   -- so they are settled and reported in turn
@@ -315,12 +314,12 @@ module _ (fixed : ControllerConfig) {H : Type 0} (answer_of : H → Command → 
       (option_to_list g.first ++ (option_to_list g.told ++ more))) (sym is)
       (record { acted = made.acted; told = made.told })
 
-  opens_and_goes : Given → (until opening wait : ℕ) (moments : List ℕ) (s : Session) (first : ReaderState H) (l : Link H) → IsReadied s first l → s.config ≡ fixed → s.state ≡ Quiet until
+  opens_and_goes : Given → fixed.poll_between_orders ≡ false → (until opening wait : ℕ) (moments : List ℕ) (s : Session) (first : ReaderState H) (l : Link H) → IsReadied s first l → s.config ≡ fixed → s.state ≡ Quiet until
       → first.config.address ≡ fixed.address → until ≤ opening → s.config.poll_interval ≤ wait → Each SetsNoAddress l.controller.waiting
       → AreSpaced answer_of after wait moments (run answer_of after (round opening) l) → MovesFit answer_of after (rounds (opening ∷ moments)) l
       → MadeFrom (length moments) l.controller.waiting l.reader.queue.events first.config first.handler (opening ∷ moments) l
       × (is_closed (run answer_of after (rounds (opening ∷ moments)) l).controller.session.state ≡ false)
-  opens_and_goes given until opening wait moments s first l h same quiet here reached short none spaced fits =
+  opens_and_goes given plain until opening wait moments s first l h same quiet here reached short none spaced fits =
       let w = l.controller.waiting in
       let events = l.reader.queue.events in
       let state : l.controller.session.state ≡ Quiet until = ap (λ (t : Session). t.state) h.session ∙ quiet in
@@ -343,7 +342,7 @@ module _ (fixed : ControllerConfig) {H : Type 0} (answer_of : H → Command → 
       let between : IsBetween interval m = record {
         holds = held_after fixed answer_of after given opening l fits.1.0 new;
         idle = subst (λ g. Idles g.next) (sym is) (record {
-          idle = (later_by l.controller.session.config.poll_interval (seen opening (record (seen opening l.controller.session) { number = 0 })), refl);
+          idle = (later_by l.controller.session.config.poll_interval (seen opening (record (seen opening l.controller.session) { number = 0; asked = false })), refl);
           still = record {
             to_reader = refl;
             to_controller = refl;
@@ -355,7 +354,7 @@ module _ (fixed : ControllerConfig) {H : Type 0} (answer_of : H → Command → 
         rests = subst (λ g. RestsFor g.next.controller.session) (sym is) refl;
         keeps = ap (λ g. g.next.controller.session.config.poll_interval) is ∙ ap (λ (t : Session). t.config.poll_interval) h.session;
       } in
-      let made = rounds_make given wait interval short moments m between spaced fits.1.1.1 in
+      let made = rounds_make given plain wait interval short moments m between spaced fits.1.1.1 in
       let n = length moments in
       let all = opened_more opening moments l is made.1 in (
         subst (λ c. MadeFrom n w events c first.handler (opening ∷ moments) l) h.reader.set_so
@@ -365,7 +364,7 @@ module _ (fixed : ControllerConfig) {H : Type 0} (answer_of : H → Command → 
 
 module _ {H : Type 0} (answer_of : H → Command → Answer) (after : H → Command → H) where
   pub goes_in_turn : ReadEachOther answer_of after → GoesInTurn answer_of after
-  goes_in_turn peers l orders opening wait moments b are fits here ready reached short none spaced more =
+  goes_in_turn peers l orders opening wait moments b are fits here ready reached short plain none spaced more =
       let s = l.controller.session in
       let before = run answer_of after orders l in
       let until = b.quiet.0 in
@@ -377,7 +376,7 @@ module _ {H : Type 0} (answer_of : H → Command → Answer) (after : H → Comm
       }) in
       let due : until ≤ opening = subst (λ state. IfSome (moment_of state) (λ quiet. quiet ≤ opening)) b.quiet.1 reached in
       let w = before.controller.waiting in
-      let all = opens_and_goes s.config answer_of after (assumed answer_of after peers s.config b.address) until opening wait moments s l.reader before readied
+      let all = opens_and_goes s.config answer_of after (assumed answer_of after peers s.config b.address) plain until opening wait moments s l.reader before readied
       refl b.quiet.1 here due short (each_of SetsNoAddress w none) spaced more in (
         in_turn s.config answer_of after l.reader.config l.reader.handler (length moments) w before.reader.queue.events
             (all_taken answer_of after (rounds (opening ∷ moments)) before) (reports answer_of after (rounds (opening ∷ moments)) before) all.0,

@@ -11,9 +11,10 @@ pub use Rattle.osdp_msg.specs.declared.command.Command.{Command}
 pub use Rattle.osdp_msg.specs.declared.event.Event.{Event}
 pub use Rattle.osdp_msg.specs.declared.fault.MsgFault.{MsgFault}
 pub use Rattle.osdp_msg.specs.declared.reply.Reply.{Reply}
-pub use Rattle.osdp_controller.specs.Exchanges.{exchange_body, exchange_command, submitted_command}
-pub use Rattle.osdp_controller.specs.Sessions.{at_rest, frame_of, later, later as later_by, lost, new_session, seen}
+pub use Rattle.osdp_controller.specs.Exchanges.{exchange_body, exchange_command, is_order, submitted_command}
+pub use Rattle.osdp_controller.specs.Sessions.{at_rest, frame_of, is_poll_next, later, later as later_by, lost, new_session, seen}
 pub use Rattle.osdp_controller.specs.Ticking.{begins, gives_up, sends_frame, stays, Ticked, ticks, ticks_in, tries_again}
+pub use Rattle.osdp_controller.proofs.Idling.{asks_front, idle_way, polls_alone}
 pub use Rattle.osdp_controller.specs.declared.config.ControllerConfig.{ControllerConfig}
 pub use Rattle.osdp_controller.specs.declared.exchange.Exchange.{Exchange}
 pub use Rattle.osdp_controller.specs.declared.exchange.Exchange.TheVariants.{Asking, Opening, Polling}

@@ -6,6 +6,7 @@ use Rattle.osdp_reader.specs.Table as reader
 use Rattle.osdp_link_laws.specs.Link as link
 use Rattle.osdp_link_laws.proofs.Acting.{no_event}
 use Rattle.osdp_link_laws.proofs.Numbers.{is_false, is_true}
+use Rattle.osdp_link_laws.proofs.OnItsWay.{first_back, none_back}
 
 -- ---- a reader that knows no number
 
@@ -74,17 +75,6 @@ module _ {H : Type 0} where
       controller = record { state = refl; config = refl; number = refl; greatest = refl; waiting = refl; capacity = refl; room = refl };
     }
 
--- ---- a command is taken back
-
-first_back : (state : State) (command : Command) (waiting all : List Command) → state ≡ Closed → all ≡ command ∷ waiting → controllers.kept_in state all ≡ waiting
-first_back state command waiting all closed is = ap (λ s. controllers.kept_in s all) closed ∙ ap (controllers.kept_in Closed) is
-
-none_back : (state : State) (all : List Command) → (state ≢ Closed) ⊎ (all ≡ []) → controllers.kept_in state all ≡ all
-none_back Closed [] why = refl
-none_back Closed (c ∷ cs) (inl unclosed) = absurd (unclosed refl)
-none_back Closed (c ∷ cs) (inr none) = absurd cc
-none_back _ all why = refl
-
 -- ---- an event is withdrawn
 
 withdrawn_by : (capacity room : ℕ) (offered ever : Bool) (front : List Event) (event : Event) (rest : List Event) → length front ≡ (if ever then 1 else 0)
@@ -138,10 +128,10 @@ loses_one place xs = (
 module _ {H : Type 0} (answer_of : H → Command → Answer) (after : H → Command → H) where
   withdraws : Withdraws answer_of after
   withdraws = record {
-    first = λ l c ws closed is. record {
+    first = λ l c ws still is. record {
       others = refl;
       session = refl;
-      waiting = first_back l.controller.session.state c ws l.controller.waiting closed is;
+      waiting = first_back l.controller.session.state c ws l.controller.waiting still is;
       capacity = refl;
       room = refl;
     };

@@ -1,5 +1,5 @@
 -- A tick that is due: the frame of an exchange goes out, or the session ends.
-use Rattle.osdp_link_laws.proofs.Common.{◌≡◌, ◌⊎◌, ℕ, ◌+◌, true, leb, ltb, List, [], ◌∷◌, ◌++◌, Some, None, refl, ap, subst, inl, inr, option_to_list, next_sequence, Command, acts, frame_of, later, seen, Ticked, begins, gives_up, sends_frame, stays, ticks, ticks_in, tries_again, Exchange, Opening, Polling, Asking, Outstanding, Session, State, Closed, Quiet, Idle, Waiting, Pausing, outstanding_command}
+use Rattle.osdp_link_laws.proofs.Common.{◌≡◌, ◌⊎◌, ℕ, ◌+◌, true, leb, ltb, List, [], ◌∷◌, ◌++◌, Some, None, refl, sym, ap, subst, inl, inr, option_to_list, next_sequence, Command, acts, is_order, frame_of, later, seen, Ticked, begins, idle_way, gives_up, sends_frame, stays, ticks, ticks_in, tries_again, Exchange, Opening, Polling, Asking, Outstanding, Session, State, Closed, Quiet, Idle, Waiting, Pausing, outstanding_command}
 use Rattle.osdp_link_laws.proofs.Lines.{both, chosen}
 
 abbrev pub Acts : Ticked → Type 0
@@ -24,7 +24,7 @@ sent x k o s waiting is = record {
 
 begun : (x : Exchange) (n : ℕ) (s : Session) (waiting : List Command) → Sends x (begins x n s waiting)
 begun x n s waiting =
-    sent x 1 (record { exchange = x; busies = 0; sent = 0 }) (record s { number = n }) waiting refl
+    sent x 1 (record { exchange = x; busies = 0; sent = 0 }) (record s { number = n; asked = is_order x }) waiting refl
 
 abbrev pub SendsOrEnds : Ticked → Type 0
 SendsOrEnds t = (t.session.state ≡ Closed) ⊎ ((x : Exchange) × Sends x t)
@@ -36,23 +36,23 @@ stays_rests s waiting e = absurd cc
 pub closed_rests : (state : State) (s : Session) (waiting : List Command) → state ≡ Closed → Acts (ticks_in state s waiting) → ⊥
 closed_rests state s waiting closed due = stays_rests s waiting (subst (λ st. Acts (ticks_in st s waiting)) closed due)
 
--- the exchange that begins where none is outstanding
+-- the exchange that begins where none is outstanding and no POLL has to come first
 abbrev pub next_exchange : List Command → Exchange
 next_exchange [] = Polling
 next_exchange (c ∷ waiting) = Asking c
 
-idle_sends : (due : ℕ) (s : Session) (waiting : List Command) → Acts (ticks_in (Idle due) s waiting) → Sends (next_exchange waiting) (ticks_in (Idle due) s waiting)
-idle_sends due s [] does =
-    chosen Acts (Sends Polling) (leb due s.greatest) (begins Polling (next_sequence s.number) s []) (stays s [])
-    (λ e. begun Polling (next_sequence s.number) s []) (λ e. stays_rests s [] e) does
-idle_sends due s (c ∷ rest) does = begun (Asking c) (next_sequence s.number) s rest
+idle_sends : (due : ℕ) (s : Session) (waiting : List Command) → Acts (ticks_in (Idle due) s waiting) → SendsOrEnds (ticks_in (Idle due) s waiting)
+idle_sends due s waiting =
+    idle_way (λ t. Acts t → SendsOrEnds t) due s waiting
+    (λ e does. inr (Polling, begun Polling (next_sequence s.number) s waiting)) (λ e does. stays_rests s waiting does)
+    (λ c rest e does. inr (Asking c, begun (Asking c) (next_sequence s.number) s rest))
 
 due_in : (state : State) (s : Session) (waiting : List Command) → Acts (ticks_in state s waiting) → SendsOrEnds (ticks_in state s waiting)
 due_in Closed s waiting does = stays_rests s waiting does
 due_in (Quiet until) s waiting does =
     chosen Acts SendsOrEnds (leb until s.greatest) (begins Opening 0 s waiting) (stays s waiting)
     (λ e. inr (Opening, begun Opening 0 s waiting)) (λ e. stays_rests s waiting e) does
-due_in (Idle due) s waiting does = inr (next_exchange waiting, idle_sends due s waiting does)
+due_in (Idle due) s waiting does = idle_sends due s waiting does
 due_in (Waiting until k o) s waiting does =
     chosen Acts SendsOrEnds (leb until s.greatest) (tries_again k o s waiting) (stays s waiting)
     (λ e. chosen Acts SendsOrEnds (ltb k s.config.sends) (sends_frame (k + 1) o s waiting) (gives_up o s waiting)
@@ -81,9 +81,8 @@ ahead_ticked : (state : State) (s : Session) (waiting : List Command) → s.stat
 ahead_ticked Closed s waiting is = inl is
 ahead_ticked (Quiet until) s waiting is =
     both (AheadOrEnds (Quiet until) waiting) (leb until s.greatest) (begins Opening 0 s waiting) (stays s waiting) (inr refl) (ahead_stays (Quiet until) s waiting is)
-ahead_ticked (Idle due) s [] is =
-    both (AheadOrEnds (Idle due) []) (leb due s.greatest) (begins Polling (next_sequence s.number) s []) (stays s []) (inr refl) (ahead_stays (Idle due) s [] is)
-ahead_ticked (Idle due) s (c ∷ rest) is = inr refl
+ahead_ticked (Idle due) s waiting is =
+    idle_way (AheadOrEnds (Idle due) waiting) due s waiting (λ e. inr refl) (λ e. ahead_stays (Idle due) s waiting is) (λ c rest e. inr (sym e))
 ahead_ticked (Waiting until k o) s waiting is =
     both (AheadOrEnds (Waiting until k o) waiting) (leb until s.greatest) (tries_again k o s waiting) (stays s waiting)
     (both (AheadOrEnds (Waiting until k o) waiting) (ltb k s.config.sends) (sends_frame (k + 1) o s waiting) (gives_up o s waiting) (inr refl) (inl refl))

@@ -1,5 +1,5 @@
 -- A whole exchange without losses: what it does, and what both ends are after it.
-use Rattle.osdp_link_laws.proofs.Common.{◌≡◌, ◌≤◌, ℕ, arith, leb, cond, List, [], ◌∷◌, ◌++◌, drop, Option, Some, None, refl, sym, subst, ap, ◌∙◌, le-leb, Packet, packed, next_sequence, Command, Reply, exchange_body, exchange_command, at_rest, frame_of, later, seen, begins, stays, Ticked, ticks, ticks_in, ControllerConfig, Exchange, Opening, Polling, Session, State, Idle, Quiet, event_for, offering, released, unoffered, ReaderState, Answer, Kind, Busy, Taken, Zero, MaySubmit, SaysWhatFits, Delivered, Link, Report, SetsNoAddress}
+use Rattle.osdp_link_laws.proofs.Common.{◌≡◌, ◌≤◌, ◌&&◌, ℕ, arith, leb, cond, List, [], ◌∷◌, ◌++◌, drop, Option, Some, None, refl, sym, subst, ap, ◌∙◌, le-leb, Packet, packed, next_sequence, Command, Reply, exchange_body, exchange_command, is_order, at_rest, frame_of, is_poll_next, later, seen, asks_front, polls_alone, begins, stays, Ticked, ticks, ticks_in, ControllerConfig, Exchange, Opening, Polling, Session, State, Idle, Quiet, event_for, offering, released, unoffered, ReaderState, Answer, Kind, Busy, Taken, Zero, MaySubmit, SaysWhatFits, Delivered, Link, Report, SetsNoAddress}
 use Rattle.std.specs.Prelude.{max, false}
 use Rattle.osdp_msg.specs.declared.reply.Reply.TheVariants as reply
 use Rattle.osdp_reader.specs.Table.{Outcome, begun, event_or_answer, hears, kind_of, moved, outcome}
@@ -16,19 +16,21 @@ use Rattle.osdp_link_laws.proofs.Settling.{MovesNone, report_of, settles_now}
 use Rattle.osdp_link_laws.proofs.Since.{Hears, has_acted}
 use Rattle.osdp_link_laws.proofs.Stages.{After, Each, IsAsked, IsOpen, Rest, Restarted, answer, frame}
 
--- where a controller at rest acts, the exchange that is next begins
-pub begins_next : (due : ℕ) (s : Session) (waiting : List Command) → Acts (ticks_in (Idle due) s waiting)
-    → ticks_in (Idle due) s waiting ≡ begins (next_exchange waiting) (next_sequence s.number) s (drop 1 waiting)
-begins_next due s [] does =
-    chosen Acts (λ t. t ≡ begins Polling (next_sequence s.number) s []) (leb due s.greatest) (begins Polling (next_sequence s.number) s []) (stays s [])
-    (λ e. refl) (λ e. stays_rests s [] e) does
-begins_next due s (c ∷ rest) does = refl
+-- where a controller at rest acts and no POLL has to come first, the exchange that is next begins
+abbrev BeginsNext : Session → List Command → Ticked → Type 0
+BeginsNext s waiting t = Acts t → t ≡ begins (next_exchange waiting) (next_sequence s.number) s (drop 1 waiting)
 
-pub begins_next_at : (state : State) (due : ℕ) (s : Session) (waiting : List Command) → state ≡ Idle due → Acts (ticks_in state s waiting)
-    → ticks_in state s waiting ≡ begins (next_exchange waiting) (next_sequence s.number) s (drop 1 waiting)
-begins_next_at state due s waiting is =
-    subst (λ st. Acts (ticks_in st s waiting) → ticks_in st s waiting ≡ begins (next_exchange waiting) (next_sequence s.number) s (drop 1 waiting))
-    (sym is) (begins_next due s waiting)
+begins_next : (due : ℕ) (s : Session) (waiting : List Command) → is_poll_next s ≡ false → BeginsNext s waiting (ticks_in (Idle due) s waiting)
+begins_next due s [] free does =
+    subst (BeginsNext s []) (sym (polls_alone due s))
+    (chosen Acts (λ t. t ≡ begins Polling (next_sequence s.number) s []) (leb due s.greatest) (begins Polling (next_sequence s.number) s []) (stays s [])
+    (λ e. refl) (λ e. stays_rests s [] e)) does
+begins_next due s (c ∷ rest) free does = asks_front due s c rest free
+
+pub begins_next_at : (state : State) (due : ℕ) (s : Session) (waiting : List Command) → state ≡ Idle due → s.config.poll_between_orders ≡ false
+    → Acts (ticks_in state s waiting) → ticks_in state s waiting ≡ begins (next_exchange waiting) (next_sequence s.number) s (drop 1 waiting)
+begins_next_at state due s waiting is plain =
+    subst (λ st. BeginsNext s waiting (ticks_in st s waiting)) (sym is) (begins_next due s waiting (ap (λ b. b && s.asked) plain))
 
 -- a whole round: the link after it, what is told at its tick and by the packet to the controller, and what the reader takes in it
 pub record Went (H : Type 0) : Type 0 where
@@ -70,7 +72,7 @@ module _ (fixed : ControllerConfig) {H : Type 0} (answer_of : H → Command → 
   begun_line : (now : ℕ) (x : Exchange) (n : ℕ) (rest : List Command) (l : Link H) → Still l → l.controller.session.config ≡ fixed
       → (begun_link now x n rest l).to_reader ≡ frame fixed x n ∷ []
   begun_line now x n rest l still config =
-      ap (λ ps. ps ++ frame_of x (record (seen now l.controller.session) { number = n }) ∷ []) still.to_reader
+      ap (λ ps. ps ++ frame_of x (record (seen now l.controller.session) { number = n; asked = is_order x }) ∷ []) still.to_reader
       ∙ ap (λ (c : ControllerConfig). packed false c.address n c.check false 0 (exchange_body x) ∷ []) config
 
   abbrev ended : ℕ → Exchange → ℕ → Reply → List Command → Link H → Went H
@@ -86,7 +88,7 @@ module _ (fixed : ControllerConfig) {H : Type 0} (answer_of : H → Command → 
       → Replies fixed answer_of after x n l.reader a → went answer_of after now l ≡ ended now x n a rest l
   whole given now x n a rest l still config none starts replies =
       let m = begun_link now x n rest l in
-      let s = record (seen now l.controller.session) { number = n } in
+      let s = record (seen now l.controller.session) { number = n; asked = is_order x } in
       let says = given.hears n a replies.acted.0.fits ∙ given.plain a replies.acted.0.plain in
       let settles = settles_now fixed x n a now m.controller.session (later s.config.reply_wait s, 1, record { exchange = x; busies = 0; sent = 1 }, refl, refl)
       (config, refl) none replies.acted.1 says in
@@ -107,7 +109,7 @@ module _ (fixed : ControllerConfig) {H : Type 0} (answer_of : H → Command → 
   abbrev ended_by : ℕ → Exchange → ℕ → Reply → List Command → Kind → Outcome H → Link H → Went H
   ended_by now x n a rest kind o l = record {
     next = record l {
-      controller = record l.controller { session = at_rest (seen now (record (seen now l.controller.session) { number = n })); waiting = rest };
+      controller = record l.controller { session = at_rest (seen now (record (seen now l.controller.session) { number = n; asked = is_order x })); waiting = rest };
       reader = o.reader;
       to_reader = [];
       to_controller = [];
@@ -122,7 +124,7 @@ module _ (fixed : ControllerConfig) {H : Type 0} (answer_of : H → Command → 
   -- the session is open, and no event counts as offered
   abbrev pub opened_link : ℕ → Link H → Link H
   opened_link now l = record l {
-    controller = record l.controller { session = at_rest (seen now (record (seen now l.controller.session) { number = 0 })) };
+    controller = record l.controller { session = at_rest (seen now (record (seen now l.controller.session) { number = 0; asked = false })) };
     reader = record l.reader { last = Some 0; queue = unoffered l.reader.queue };
     to_reader = [];
     to_controller = [];
@@ -167,7 +169,7 @@ module _ (fixed : ControllerConfig) {H : Type 0} (answer_of : H → Command → 
       let a = event_or_answer answer_of after event l.reader.config l.reader.handler c in
       record l {
         controller = record l.controller {
-          session = at_rest (seen now (record (seen now l.controller.session) { number = n }));
+          session = at_rest (seen now (record (seen now l.controller.session) { number = n; asked = is_order (next_exchange l.controller.waiting) }));
           waiting = drop 1 l.controller.waiting;
         };
         reader = record l.reader { last = Some n; stored = Some (answer fixed n a.reply); queue = offering event queue; handler = a.handler };
@@ -196,12 +198,12 @@ module _ (fixed : ControllerConfig) {H : Type 0} (answer_of : H → Command → 
   next_moves [] none = tt
   next_moves (c ∷ waiting) none = none.0
 
-  pub exchange_from_rest : Given → (now due : ℕ) (since : Restarted) (n : ℕ) (y : Exchange) (b : Reply) (l : Link H) → Hears since
+  pub exchange_from_rest : Given → fixed.poll_between_orders ≡ false → (now due : ℕ) (since : Restarted) (n : ℕ) (y : Exchange) (b : Reply) (l : Link H) → Hears since
       → At fixed answer_of after since (Rest n y b) l → Each SetsNoAddress l.controller.waiting
       → l.controller.session.state ≡ Idle due → IsOpen fixed n l.controller.session → Still l
       → Acts (ticks now l.controller.session l.controller.waiting) → SaysWhatFits answer_of after (at_tick now l).to_reader l.reader
       → went answer_of after now l ≡ rested now l
-  exchange_from_rest given now due since n y b l hears_it h set is opened still does fits =
+  exchange_from_rest given plain now due since n y b l hears_it h set is opened still does fits =
       let s = l.controller.session in
       let w = l.controller.waiting in
       let r = l.reader in
@@ -210,7 +212,7 @@ module _ (fixed : ControllerConfig) {H : Type 0} (answer_of : H → Command → 
       let p = frame fixed x k in
       let a = taken_answer fixed answer_of after (exchange_command x) r in
       let last : r.last ≡ Some s.number = ((has_acted fixed since n y b l.reader hears_it h.reader).here still.ready.here).0 ∙ ap (λ m. Some m) (sym opened.1) in
-      let starts = begins_next_at s.state due (seen now s) w is does in
+      let starts = begins_next_at s.state due (seen now s) w is (ap (λ c. c.poll_between_orders) opened.0 ∙ plain) does in
       let asked = next_asked s.number y b w h.waiting in
       let none = next_moves w set in
       let said = fits_there now x k (drop 1 w) l still opened.0 starts fits in

@@ -1,5 +1,5 @@
 -- From the beginning of a first session to each list of moves after it.
-use Rattle.osdp_link_laws.proofs.Common.{◌≡◌, ◌<◌, ℕ, List, [], ◌∷◌, Option, Some, None, refl, sym, subst, Packet, Command, ControllerConfig, Polling, ControllerFault, Closed, Answer, MovesFit, Begins, MoveFits, MaySubmit, Link, Move, Reopen, after_move, run, ReadEachOther, restarts_after, restarts_in_session}
+use Rattle.osdp_link_laws.proofs.Common.{◌≡◌, ◌<◌, ℕ, false, List, [], ◌∷◌, Option, Some, None, refl, sym, subst, Packet, Command, ControllerConfig, Polling, ControllerFault, Closed, Answer, MovesFit, Begins, MoveFits, MaySubmit, Link, Move, Reopen, after_move, run, ReadEachOther, restarts_after, restarts_in_session}
 use Rattle.osdp_controller.specs.Machine as controllers
 use Rattle.osdp_link_laws.specs.Link as link
 use Rattle.osdp_link_laws.specs.Sessions as sessions
@@ -26,7 +26,7 @@ module _ {H : Type 0} (answer_of : H → Command → Answer) (after : H → Comm
   pub assumed : ReadEachOther answer_of after → Assumed
   assumed peers fixed device = record {
     device = device;
-    reads = λ x n fit. peers.asked x (record { config = fixed; state = Closed; number = n; greatest = 0 }) fit;
+    reads = λ x n fit. peers.asked x (record { config = fixed; state = Closed; number = n; asked = false; greatest = 0 }) fit;
     hears = λ n r fit. peers.answered (frame fixed Polling 0) n r fit;
     plain = peers.plain;
     tells = peers.tells;

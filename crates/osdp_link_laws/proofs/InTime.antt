@@ -62,8 +62,8 @@ module _ {H : Type 0} (answer_of : H → Command → Answer) (after : H → Comm
       ]
 
   pub in_time : ReadEachOther answer_of after → ComesDue → ComesThroughInTime answer_of after
-  in_time peers comes l moves moments b is fits clear late more =
+  in_time peers comes l moves moments b is fits clear plain late more =
       elim (late_due comes moments (run answer_of after moves l) more (run_range moves l fits is) late) [
         | inl closed ↦ inl closed
-        | inr due ↦ inr (comes_through answer_of after peers l moves moments b fits clear due more)
+        | inr due ↦ inr (comes_through answer_of after peers l moves moments b fits clear plain due more)
       ]

@@ -1,4 +1,5 @@
 pub mod Common
+pub mod OnItsWay
 pub mod Tables
 pub mod Stages
 pub mod Lines

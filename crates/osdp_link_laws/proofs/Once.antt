@@ -5,6 +5,7 @@ use Rattle.osdp_link_laws.specs.Link as link
 use Rattle.osdp_link_laws.proofs.Coming.{MovesTo}
 use Rattle.osdp_link_laws.proofs.Deliveries.{coming_to_controller, coming_to_reader, missing_to_controller, missing_to_reader}
 use Rattle.osdp_link_laws.proofs.Lines.{each_rest}
+use Rattle.osdp_link_laws.proofs.OnItsWay.{withdrawn_first}
 use Rattle.osdp_link_laws.proofs.Moves.{Premises, being_otherwise, not_poll, queueing, submitting, ticking, withdrawing, lapsing}
 use Rattle.osdp_link_laws.proofs.Parts.{At, HoldsAtSomeStage, HoldsThen, with_session}
 use Rattle.osdp_link_laws.proofs.Restarts.{restarting_reader}
@@ -18,11 +19,6 @@ GoesOn _ = Unit {0}
 -- nothing was sent yet, and the reader hasn't restarted
 abbrev pub IsFirst : Restarted → Stage → Type 0
 IsFirst since at = (since ≡ Never) × (at ≡ Fresh)
-
-withdrawn_first : (state : State) (ws : List Command) → option_to_list (controllers.withdrawn_in state ws) ++ controllers.kept_in state ws ≡ ws
-withdrawn_first Closed [] = refl
-withdrawn_first Closed (w ∷ ws) = refl
-withdrawn_first _ ws = refl
 
 target_closed : (state : State) (address : ℕ) → controllers.or_no_device (controllers.refused_unless_closed state) address ≡ None → state ≡ Closed
 target_closed Closed address may = refl

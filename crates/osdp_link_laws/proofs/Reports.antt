@@ -1,5 +1,5 @@
 -- What the controller's user is told by a tick, and by a packet that says BUSY or a reply that settles.
-use Rattle.osdp_link_laws.proofs.Common.{◌≡◌, ◌+◌, ℕ, leb, ltb, List, [], ◌∷◌, Option, Some, None, refl, sym, subst, inl, inr, Packet, next_sequence, Command, Communication, Event, Reply, PdId, said_by, event_in, Heard, answered, com_of, command_answered, comset_of, hears, hears_busy, hears_in, ignores, is_ack, is_from_reader, is_numbered, loses, moved_by, opening_answered, pausing_hears, pd_id_of, poll_told, waiting_hears, later, lost, seen, Ticked, begins, gives_up, sends_frame, stays, ticks_in, tries_again, NotTaken, Plain, Exchange, Opening, Polling, Asking, Outstanding, NoReply, TooBusy, Report, Session, State, Closed, Quiet, Idle, Waiting, Pausing, Delivered, Delivery, Repeated, IsPlainlySaid, told_by_front}
+use Rattle.osdp_link_laws.proofs.Common.{◌≡◌, ◌+◌, ℕ, leb, ltb, List, ◌∷◌, Option, Some, None, refl, sym, subst, inl, inr, Packet, Command, Communication, Event, Reply, PdId, said_by, event_in, Heard, answered, com_of, command_answered, comset_of, hears, hears_busy, hears_in, ignores, is_ack, is_from_reader, is_numbered, loses, moved_by, opening_answered, pausing_hears, pd_id_of, poll_told, waiting_hears, later, lost, seen, Ticked, begins, idle_way, gives_up, sends_frame, stays, ticks_in, tries_again, NotTaken, Plain, Exchange, Opening, Polling, Asking, Outstanding, NoReply, TooBusy, Report, Session, State, Closed, Quiet, Idle, Waiting, Pausing, Delivered, Delivery, Repeated, IsPlainlySaid, told_by_front}
 use Rattle.osdp_controller.specs.declared.report.Report.TheVariants as report
 use Rattle.osdp_link_laws.proofs.Lines.{both}
 use Rattle.osdp_link_laws.proofs.Stages.{Each}
@@ -12,8 +12,7 @@ module _ (P : Option Report → Type 0) (nothing : P None) (silent : (o : Outsta
   pub tick_so : (state : State) (s : Session) (waiting : List Command) → P (ticks_in state s waiting).step.report
   tick_so Closed s waiting = nothing
   tick_so (Quiet until) s waiting = both TickedSo (leb until s.greatest) (begins Opening 0 s waiting) (stays s waiting) nothing nothing
-  tick_so (Idle due) s [] = both TickedSo (leb due s.greatest) (begins Polling (next_sequence s.number) s []) (stays s []) nothing nothing
-  tick_so (Idle due) s (c ∷ rest) = nothing
+  tick_so (Idle due) s waiting = idle_way TickedSo due s waiting (λ e. nothing) (λ e. nothing) (λ c rest e. nothing)
   tick_so (Waiting until k o) s waiting =
       both TickedSo (leb until s.greatest) (tries_again k o s waiting) (stays s waiting)
       (both TickedSo (ltb k s.config.sends) (sends_frame (k + 1) o s waiting) (gives_up o s waiting) nothing (silent o)) nothing

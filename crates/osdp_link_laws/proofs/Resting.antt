@@ -49,7 +49,7 @@ module _ (fixed : ControllerConfig) {H : Type 0} (answer_of : H → Command → 
 
 module _ {H : Type 0} (answer_of : H → Command → Answer) (after : H → Command → H) where
   pub comes_through_from_rest : ReadEachOther answer_of after → ComesThroughFromRest answer_of after
-  comes_through_from_rest peers l moves moments b fits clear rest hears due more =
+  comes_through_from_rest peers l moves moments b fits clear plain rest hears due more =
       let afterwards = run answer_of after moves l in
       let stood = stands_since answer_of after peers l moves b fits in
       let s = stood.0 in
@@ -68,7 +68,7 @@ module _ {H : Type 0} (answer_of : H → Command → Answer) (after : H → Comm
       let all = assumed answer_of after peers s.fixed s.device in
       let few = min-le_left (length moments) (count_ahead afterwards) in
       let every = min-le_right (length moments) (count_ahead afterwards) in
-      elim (through s.fixed answer_of after all moments afterwards s.goes idle due more) [
+      elim (through s.fixed answer_of after all (ap (λ c. c.poll_between_orders) (sym same) ∙ plain) moments afterwards s.goes idle due more) [
         | inl far ↦ omega (arith, far, few)
         | inr whole ↦ omega (arith, whole, every)
       ]

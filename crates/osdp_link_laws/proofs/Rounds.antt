@@ -1,5 +1,5 @@
 -- Rounds that lose nothing, from rest: each settles a command or reports an event, until all are.
-use Rattle.osdp_link_laws.proofs.Common.{◌≡◌, ◌⊎◌, ◌+◌, ℕ, suc, Bool, false, List, [], ◌∷◌, ◌++◌, length, drop, refl, sym, subst, ap, ◌∙◌, inl, inr, arith, Command, Event, exchange_command, later, seen, ticks, ControllerConfig, Idle, next_sequence, Answer, ReaderConfig, event_for, event_or_answer, offering, Queue, released, option_to_list, outstanding_command, MaySubmit, SaysWhatFits, Link, SetsNoAddress, TellsItsEvent, count_ahead}
+use Rattle.osdp_link_laws.proofs.Common.{◌≡◌, ◌⊎◌, ◌+◌, ℕ, suc, Bool, false, List, [], ◌∷◌, ◌++◌, length, drop, refl, sym, subst, ap, ◌∙◌, inl, inr, arith, Command, Event, exchange_command, is_order, later, seen, ticks, ControllerConfig, Idle, next_sequence, Answer, ReaderConfig, event_for, event_or_answer, offering, Queue, released, option_to_list, outstanding_command, MaySubmit, SaysWhatFits, Link, SetsNoAddress, TellsItsEvent, count_ahead}
 use Rattle.osdp_controller.specs.Hearing.{poll_told}
 use Rattle.osdp_msg.specs.Events.{event_reply}
 use Rattle.osdp_link_laws.specs.Ahead.{has_number, is_polling, is_unopened, offered_to, unoffered_events}
@@ -57,7 +57,7 @@ module _ (fixed : ControllerConfig) {H : Type 0} (answer_of : H → Command → 
   -- the controller waits for nothing again
   pub rested_idle : (now : ℕ) (l : Link H) → Idles l → Idles (rested_link fixed answer_of after now l)
   rested_idle now l idle = record {
-    idle = (later l.controller.session.config.poll_interval (seen now (record (seen now l.controller.session) { number = next_sequence l.controller.session.number })), refl);
+    idle = (later l.controller.session.config.poll_interval (seen now (record (seen now l.controller.session) { number = next_sequence l.controller.session.number; asked = is_order (next_exchange l.controller.waiting) })), refl);
     still = record {
       to_reader = refl;
       to_controller = refl;
@@ -81,10 +81,10 @@ module _ (fixed : ControllerConfig) {H : Type 0} (answer_of : H → Command → 
   hears_known Now (Rest n x a) l h idle = absurd (let e = sym idle.known.1 ∙ h.reader in cc)
 
   -- a round from a controller that waits for nothing is an exchange from rest
-  pub idle_exchange : Given → (now : ℕ) (l : Link H) → Goes fixed answer_of after l → Idles l
+  pub idle_exchange : Given → fixed.poll_between_orders ≡ false → (now : ℕ) (l : Link H) → Goes fixed answer_of after l → Idles l
       → Acts (ticks now l.controller.session l.controller.waiting) → SaysWhatFits answer_of after (at_tick now l).to_reader l.reader
       → went answer_of after now l ≡ rested fixed answer_of after now l
-  idle_exchange given now l held idle does fits = by_stage held.holds.1 held.holds.2
+  idle_exchange given plain now l held idle does fits = by_stage held.holds.1 held.holds.2
     where
       since : Restarted
       since = held.holds.0
@@ -96,16 +96,16 @@ module _ (fixed : ControllerConfig) {H : Type 0} (answer_of : H → Command → 
       by_stage (Level past x a) h =
           absurd (subst (λ st. Asks fixed st (number_after past) x l.controller.session) idle.idle.1 h.controller)
       by_stage (Rest n y b) h =
-          exchange_from_rest fixed answer_of after given now idle.idle.0 since n y b l (hears_known since (Rest n y b) l h idle) h
+          exchange_from_rest fixed answer_of after given plain now idle.idle.0 since n y b l (hears_known since (Rest n y b) l h idle) h
           (waiting_at_rest l idle.idle.0 idle.idle.1 idle.still.stays) idle.idle.1
           (subst (λ st. Rests fixed st n l.controller.session) idle.idle.1 h.controller) idle.still does fits
 
   -- .. which tells one, unless none is left
-  pub idle_round : Given → (now : ℕ) (l : Link H) → Goes fixed answer_of after l → Idles l
+  pub idle_round : Given → fixed.poll_between_orders ≡ false → (now : ℕ) (l : Link H) → Goes fixed answer_of after l → Idles l
       → Acts (ticks now l.controller.session l.controller.waiting) → SaysWhatFits answer_of after (at_tick now l).to_reader l.reader
       → Idles (goes answer_of after now l) × OneLess (tells (went answer_of after now l).told) (count_ahead l) (count_ahead (goes answer_of after now l))
-  idle_round given now l held idle does fits =
-      let is = idle_exchange given now l held idle does fits in
+  idle_round given plain now l held idle does fits =
+      let is = idle_exchange given plain now l held idle does fits in
       let q = l.reader.queue in
       let rest = released q in
       let before = left_at_rest l idle.idle.0 idle.idle.1 in

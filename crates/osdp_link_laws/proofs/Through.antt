@@ -1,5 +1,5 @@
 -- From a link without losses over its rounds.
-use Rattle.osdp_link_laws.proofs.Common.{◌≡◌, ◌≢◌, ◌⊎◌, ◌≤◌, ◌+◌, ◌-◌, ℕ, List, [], ◌∷◌, ◌++◌, length, refl, sym, subst, ap, ◌∙◌, inl, inr, arith, option_to_list, Option, min-le_left, min-le_right, Packet, Command, said_by, hears_in, ignores, is_from_reader, seen, ticks, ControllerConfig, Report, State, Closed, Idle, Answer, MovesFit, SaysWhatFits, Delivered, Link, Tick, ToController, ToReader, run, AreDue, ComeOn, ComesThrough, IsClear, SetsNoAddress, round, rounds, ReadEachOther, ahead, count_ahead, reports, told_by, told_in}
+use Rattle.osdp_link_laws.proofs.Common.{◌≡◌, ◌≢◌, ◌⊎◌, ◌≤◌, ◌+◌, ◌-◌, ℕ, false, List, [], ◌∷◌, ◌++◌, length, refl, sym, subst, ap, ◌∙◌, inl, inr, arith, option_to_list, Option, min-le_left, min-le_right, Packet, Command, said_by, hears_in, ignores, is_from_reader, seen, ticks, ControllerConfig, Report, State, Closed, Idle, Answer, MovesFit, SaysWhatFits, Delivered, Link, Tick, ToController, ToReader, run, AreDue, ComeOn, ComesThrough, IsClear, SetsNoAddress, round, rounds, ReadEachOther, ahead, count_ahead, reports, told_by, told_in}
 use Rattle.osdp_link_laws.specs.Link as link
 use Rattle.osdp_link_laws.proofs.Ahead.{asks_for, count_at, left_at, placed_here, rests_none, waits_none}
 use Rattle.osdp_link_laws.proofs.Due.{Acts, closed_rests, due_sends}
@@ -130,13 +130,13 @@ module _ (fixed : ControllerConfig) {H : Type 0} (answer_of : H → Command → 
   abbrev Through : List ℕ → Link H → Type 0
   Through moments l = (length moments ≤ all_told moments l) ⊎ (count_ahead l ≤ all_told moments l)
 
-  pub through : Given → (moments : List ℕ) (l : Link H) → Holds l → IsIdle fixed answer_of after l → AreDue answer_of after moments l
+  pub through : Given → fixed.poll_between_orders ≡ false → (moments : List ℕ) (l : Link H) → Holds l → IsIdle fixed answer_of after l → AreDue answer_of after moments l
       → MovesFit answer_of after (rounds moments) l → Through moments l
-  through given [] l held idle due fits = inl (omega arith)
-  through given (now ∷ later) l held idle due fits =
+  through given plain [] l held idle due fits = inl (omega arith)
+  through given plain (now ∷ later) l held idle due fits =
       let next = goes answer_of after now l in
-      let one = idle_round fixed answer_of after given now l held idle due.0 fits.1.0 in
-      let more = through given later next (held_after given now l fits.1.0 held) one.0 due.1 fits.1.1.1 in
+      let one = idle_round fixed answer_of after given plain now l held idle due.0 fits.1.0 in
+      let more = through given plain later next (held_after given now l fits.1.0 held) one.0 due.1 fits.1.1.1 in
       let told = round_told now later l in
       elim one.1 [
         | inr none ↦ inr (omega (arith, none))
@@ -166,9 +166,9 @@ module _ {H : Type 0} (answer_of : H → Command → Answer) (after : H → Comm
       absurd (closed_rests m.controller.session.state (seen next m.controller.session) m.controller.waiting closed due.0)
 
   pub comes_through : ReadEachOther answer_of after → ComesThrough answer_of after
-  comes_through peers l moves [] b fits clear due more =
+  comes_through peers l moves [] b fits clear plain due more =
       let few = min-le_left (length {A = ℕ} [] - 1) (count_ahead (run answer_of after moves l)) in omega (arith, few)
-  comes_through peers l moves (now ∷ later) b fits clear due more =
+  comes_through peers l moves (now ∷ later) b fits clear plain due more =
       let afterwards = run answer_of after moves l in
       let s = stands answer_of after peers l moves b fits in
       let session = afterwards.controller.session in
@@ -183,5 +183,5 @@ module _ {H : Type 0} (answer_of : H → Command → Answer) (after : H → Comm
         | inl closed ↦ ended now later afterwards first closed due.1
         | inr idle ↦ come_on s.fixed answer_of after now later afterwards
             (first_left s.fixed answer_of after all now afterwards s.goes still lasts more.1.0 idle)
-            (through s.fixed answer_of after all later first held idle due.1 more.1.1.1)
+            (through s.fixed answer_of after all (ap (λ c. c.poll_between_orders) (sym same) ∙ plain) later first held idle due.1 more.1.1.1)
       ]

@@ -1,5 +1,5 @@
 -- What a tick does to the controller, by how far the session has come.
-use Rattle.osdp_link_laws.proofs.Common.{◌≡◌, ◌⊎◌, ℕ, ◌+◌, leb, ltb, List, [], ◌∷◌, ◌++◌, Some, None, refl, sym, subst, ap, inl, inr, option_to_list, next_sequence, Command, Reply, ControllerConfig, Exchange, Opening, Polling, Asking, Outstanding, Session, State, Closed, Quiet, Idle, Waiting, Pausing, submitted_command, frame_of, seen, Ticked, begins, gives_up, sends_frame, stays, ticks, ticks_in, tries_again, MaySubmit}
+use Rattle.osdp_link_laws.proofs.Common.{◌≡◌, ◌⊎◌, ℕ, ◌+◌, leb, ltb, List, ◌++◌, Some, None, refl, sym, subst, ap, inl, inr, option_to_list, next_sequence, Command, Reply, ControllerConfig, Exchange, Opening, Polling, Asking, Outstanding, Session, State, Closed, Quiet, Idle, Waiting, Pausing, is_order, submitted_command, frame_of, seen, Ticked, begins, idle_way, gives_up, sends_frame, stays, ticks, ticks_in, tries_again, MaySubmit}
 use Rattle.osdp_link_laws.proofs.Lines.{both}
 use Rattle.osdp_link_laws.proofs.Stages.{After, Asks, Each, IsAsked, IsFrame, IsOpen, Past, Rests, Start, Waits, frame, pending}
 
@@ -72,22 +72,20 @@ module _ (fixed : ControllerConfig) where
   begun : (past : Past) (x : Exchange) (n : ℕ) (s : Session) (waiting rest : List Command) → IsAsked past x → waiting ≡ pending x ++ rest
       → s.config ≡ fixed → Begun past n waiting (begins x n s rest)
   begun past x n s waiting rest asked is config =
-      (x, asked, is, ap Some (frame_is n x x (record s { number = n }) (config, refl) refl), refl, ((config, refl), refl))
+      (x, asked, is, ap Some (frame_is n x x (record s { number = n; asked = is_order x }) (config, refl) refl), refl, ((config, refl), refl))
 
   tick_resting : (state : State) (n : ℕ) (x : Exchange) (r : Reply) (s : Session) (waiting : List Command) → s.state ≡ state
       → Rests fixed state n s → Each MaySubmit waiting
       → Begun (After n x r) (next_sequence n) waiting (ticks_in state s waiting) ⊎ Unchanged (RestsOn n) waiting (ticks_in state s waiting)
   tick_resting Closed n x r s waiting e rests may =
       inr (refl, refl, refl, subst (λ st. Rests fixed st n s) (sym e) rests)
-  tick_resting (Idle due) n x r s [] e rests may =
-      both (λ t. Begun (After n x r) (next_sequence n) [] t ⊎ Unchanged (RestsOn n) [] t) (leb due s.greatest)
-      (begins Polling (next_sequence s.number) s []) (stays s [])
-      (inl (subst (λ k. Begun (After n x r) (next_sequence n) [] (begins Polling (next_sequence k) s [])) (sym rests.1)
-      (begun (After n x r) Polling (next_sequence n) s [] [] tt refl rests.0)))
-      (inr (refl, refl, refl, subst (λ st. Rests fixed st n s) (sym e) rests))
-  tick_resting (Idle due) n x r s (command ∷ rest) e rests may =
-      inl (subst (λ k. Begun (After n x r) (next_sequence n) (command ∷ rest) (begins (Asking command) (next_sequence k) s rest)) (sym rests.1)
-      (begun (After n x r) (Asking command) (next_sequence n) s (command ∷ rest) rest may.0 refl rests.0))
+  tick_resting (Idle due) n x r s waiting e rests may =
+      idle_way (λ t. Begun (After n x r) (next_sequence n) waiting t ⊎ Unchanged (RestsOn n) waiting t) due s waiting
+      (λ due. inl (subst (λ k. Begun (After n x r) (next_sequence n) waiting (begins Polling (next_sequence k) s waiting)) (sym rests.1)
+      (begun (After n x r) Polling (next_sequence n) s waiting waiting tt refl rests.0)))
+      (λ due. inr (refl, refl, refl, subst (λ st. Rests fixed st n s) (sym e) rests))
+      (λ command rest is. inl (subst (λ k. Begun (After n x r) (next_sequence n) waiting (begins (Asking command) (next_sequence k) s rest)) (sym rests.1)
+      (begun (After n x r) (Asking command) (next_sequence n) s waiting rest (subst (Each MaySubmit) is may).0 is rests.0)))
   tick_resting _ n x r s waiting e rests may = absurd rests
 
   pub rests_seen : (state : State) (n : ℕ) (s : Session) (now : ℕ) → Rests fixed state n s → Rests fixed state n (seen now s)

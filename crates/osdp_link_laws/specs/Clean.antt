@@ -32,13 +32,14 @@ module _ {H : Type 0} (answer_of : H → Command → Answer) (after : H → Comm
   AreSpaced wait [] l = Unit {0}
   AreSpaced wait (now ∷ later) l = (later_by wait l.controller.session ≤ now) × AreSpaced wait later (run answer_of after (round now) l)
 
-  -- a first session, at a reader at the controller's address that isn't busy: whatever was submitted and queued, the opening round and n
-  -- more, each as late as the poll's interval asks, settle and report in turn, and the session lasts
+  -- a first session, at a reader at the controller's address that isn't busy, where orders go out one after the other: whatever was submitted and queued,
+  -- the opening round and n more, each as late as the poll's interval asks, settle and report in turn, and the session lasts
   abbrev pub GoesInTurn : Type 0
   GoesInTurn = (l : Link H) (orders : List (Move H)) (opening wait : ℕ) (moments : List ℕ) → Begins l → All IsOrder orders
       → MovesFit answer_of after orders l
       → l.reader.config.address ≡ l.controller.session.config.address → l.reader.busy ≡ false
       → IfSome (moment_of l.controller.session.state) (λ quiet. quiet ≤ opening) → l.controller.session.config.poll_interval ≤ wait
+      → l.controller.session.config.poll_between_orders ≡ false
       → let before = run answer_of after orders l in
       All SetsNoAddress before.controller.waiting
       → AreSpaced wait moments (run answer_of after (round opening) before) → MovesFit answer_of after (rounds (opening ∷ moments)) before

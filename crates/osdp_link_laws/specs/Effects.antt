@@ -17,7 +17,7 @@ use Rattle.osdp_reader.specs.declared.config.ReaderConfig.{ReaderConfig}
 use Rattle.osdp_reader.specs.declared.handler.Answer.{Answer}
 use Rattle.osdp_reader.specs.declared.kind.Kind.TheVariants.{Repeat, Taken}
 use Rattle.osdp_reader_laws.specs.Laws.{ComesTo, DiffersByHandler}
-use Rattle.osdp_link_laws.specs.Link.{LapseEvent, Link, LoseToController, LoseToReader, Move, Reopen, RestartController, RestartReader, Retarget, SetHandler, Withdraw, WithdrawEvent, after_move}
+use Rattle.osdp_link_laws.specs.Link.{LapseEvent, Link, LoseToController, LoseToReader, Move, Reopen, RestartController, RestartReader, Retarget, SetHandler, Withdraw, WithdrawEvent, after_move, outstanding_command}
 use Rattle.osdp_link_laws.specs.Sessions.{all_begun, restarts_in_session}
 
 -- ---- machines
@@ -132,11 +132,12 @@ module _ {H : Type 0} where
 
     -- ---- what each does
 
-    -- where the controller is closed and a command waits, and only there
+    -- where no command is on its way and one waits, and only there
     pub record Withdraws : Type 0 where
-      pub first : (l : Link H) (command : Command) (waiting : List Command) → l.controller.session.state ≡ Closed
+      pub first : (l : Link H) (command : Command) (waiting : List Command) → outstanding_command l.controller.session.state ≡ None
           → l.controller.waiting ≡ command ∷ waiting → HasTakenBack waiting l (after_move answer_of after Withdraw l)
-      pub none : (l : Link H) → (l.controller.session.state ≢ Closed) ⊎ (l.controller.waiting ≡ []) → after_move answer_of after Withdraw l ≡ l
+      pub none : (l : Link H) → (outstanding_command l.controller.session.state ≢ None) ⊎ (l.controller.waiting ≡ [])
+          → after_move answer_of after Withdraw l ≡ l
 
     -- where the controller is closed and the address is a device's, and only there
     pub record Retargets : Type 0 where

@@ -35,7 +35,7 @@ pub data Delivery : Type 0 where
   Repeated : Delivery
 
 -- what may happen to a link, at any moment. `Reopen`: a session begins again. `SetHandler`: the device has another handler from now on.
--- `Withdraw`: where the controller is closed, the command that has waited longest is taken back. `Retarget`: where it is closed, its
+-- `Withdraw`: where no command is on its way, the one that has waited longest is taken back. `Retarget`: where the controller is closed, its
 -- address is set. `WithdrawEvent`: the device takes the oldest event back that it has never offered, if there is one. `LapseEvent`: it lets the
 -- front go, where it was ever offered, though its answer may be lost. `RestartReader`: the reader is new, with these settings, this handler and this
 -- room for events: the same device where its identity and its capabilities are as before, and else another in its place. `RestartController`: the
@@ -94,7 +94,7 @@ module _ {H : Type 0} where
   reopens None [] [] now l = record l { controller = controllers.after_begin now l.controller }
   reopens _ _ _ now l = l
 
-  -- the command that has waited longest is taken back, where the controller is closed and one waits
+  -- the command that has waited longest is taken back, where none is on its way and one waits
   abbrev pub withdraws : Link H → Link H
   withdraws l = record l { controller = controllers.after_withdraw l.controller }
 

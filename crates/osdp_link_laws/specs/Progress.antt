@@ -1,4 +1,5 @@
--- Something comes through: each of m rounds that lose nothing, but the first, settles a command or reports an event while one is left.
+-- Something comes through where orders go out one after the other: each of m rounds that lose nothing, but the first, settles a command or reports an event
+-- while one is left.
 use Rattle.std.specs.Prelude.{◌≡◌, ◌⊎◌, ◌≤◌, ℕ, ◌+◌, ◌-◌, min, true, false, All, List, [], ◌∷◌, ◌++◌, length, Some, None}
 use Rattle.osdp_msg.specs.declared.command.Command.{Command}
 use Rattle.osdp_controller.specs.Hearing.{comset_of}
@@ -68,7 +69,8 @@ module _ {H : Type 0} where
     abbrev pub ComesThrough : Type 0
     ComesThrough = (l : Link H) (moves : List (Move H)) (moments : List ℕ) → Begins l → MovesFit answer_of after moves l
         → let later = run answer_of after moves l in
-        IsClear later → AreDue moments later → MovesFit answer_of after (rounds moments) later
+        IsClear later → later.controller.session.config.poll_between_orders ≡ false
+        → AreDue moments later → MovesFit answer_of after (rounds moments) later
         → ComeOn moments later
 
     -- a round from a clear link leaves it clear and at rest, or ends the session
@@ -84,7 +86,8 @@ module _ {H : Type 0} where
     abbrev pub ComesThroughFromRest : Type 0
     ComesThroughFromRest = (l : Link H) (moves : List (Move H)) (moments : List ℕ) → Begins l → MovesFit answer_of after moves l
         → let later = run answer_of after moves l in
-        IsClear later → IsAtRest later → HearsOn (restarts_in_session answer_of after moves l 0) later
+        IsClear later → later.controller.session.config.poll_between_orders ≡ false
+        → IsAtRest later → HearsOn (restarts_in_session answer_of after moves l 0) later
         → AreDue moments later → MovesFit answer_of after (rounds moments) later
         → min (length moments) (count_ahead later) ≤ told_in (reports answer_of after (rounds moments) later)
 
@@ -99,7 +102,8 @@ module _ {H : Type 0} where
     ComesThroughInTime = (l : Link H) (moves : List (Move H)) (moments : List ℕ) → Begins l → IsInRange l.controller.session
         → MovesFit answer_of after moves l
         → let later = run answer_of after moves l in
-        IsClear later → AreLate moments later → MovesFit answer_of after (rounds moments) later
+        IsClear later → later.controller.session.config.poll_between_orders ≡ false
+        → AreLate moments later → MovesFit answer_of after (rounds moments) later
         → let last = run answer_of after (rounds moments) later in
         (last.controller.session.state ≡ Closed) ⊎ ComeOn moments later
 

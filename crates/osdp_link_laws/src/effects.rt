@@ -9,7 +9,7 @@ use osdp_reader::Handler;
 /// `handler`: a device that has another handler keeps its number, its stored reply and its events. A repeat is answered with what was stored, and no
 /// handler is asked. The next command that is taken is answered with the new handler.
 ///
-/// `withdraw`: where the controller is closed and a command waits, the one that has waited longest is taken back; else nothing happens.
+/// `withdraw`: where no command is on its way and one waits, the one that has waited longest is taken back; else nothing happens.
 ///
 /// `event`: where some event of the device was never offered, in this session or before, the oldest of these is withdrawn: it leaves the queue, and no
 /// other does. What is offered stays so, and so does the stored reply. Else nothing happens.

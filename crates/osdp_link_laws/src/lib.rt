@@ -65,11 +65,13 @@ pub fn stay_where_they_are<H: Handler>()
     reads_what_is_asked();
 }
 
-/// From a link with nothing on the line, both ends at one address, the reader not busy and no COMSET to a device's address outstanding or waiting: after m
-/// rounds that lose nothing, each with a tick that is due, m - 1 of the commands and events that were left, or all of them, are settled and reported.
-/// With ticks that come as much later than the greatest moment seen as the longest of the controller's waits, that is so or the session
-/// has ended. After one such round the link is clear again and nobody waits for an answer, or the session has ended. Where nobody waits for
-/// an answer at first, and the reader hasn't restarted in this session or has heard number 0 since, m rounds settle and report m, or all.
+/// Where orders go out one after the other, from a link with nothing on the line, both ends at one address, the reader not busy and no COMSET to a
+/// device's address outstanding or waiting: after m rounds that lose nothing, each with a tick that is due, m - 1 of the commands and events that were
+/// left, or all of them, are settled and reported. With ticks that come as much later than the greatest moment seen as the longest of the controller's
+/// waits, that is so or the session has ended. Where nobody waits for an answer at first, and the reader hasn't restarted in this session or has heard
+/// number 0 since, m rounds settle and report m, or all.
+///
+/// Also where a POLL stands between any two orders, the link is clear again after one such round and nobody waits for an answer, or the session has ended.
 ///
 /// A first session that lasts forgets none, where neither end restarts, nothing is taken back and no event lapses: as many commands are settled and events
 /// reported in it, or are ahead at its end, as were ahead when it began and were accepted since. Which these are says the ledger (`osdp_link_ledger`).
@@ -85,9 +87,9 @@ pub fn comes_through<H: Handler>()
     osdp_controller_laws::ticks_come_due();
 }
 
-/// A first session without losses, with a reader at the controller's address that isn't busy, and no COMSET to a device's address: after
-/// the opening each round, as late as the poll's interval asks, settles a command, the oldest first, each with its own answer. Once all
-/// are settled each round reports an event, the oldest first. The session lasts.
+/// A first session without losses, in which orders go out one after the other, with a reader at the controller's address that isn't busy, and no COMSET
+/// to a device's address: after the opening each round, as late as the poll's interval asks, settles a command, the oldest first, each with its own
+/// answer. Once all are settled each round reports an event, the oldest first. The session lasts.
 pub fn goes_in_turn<H: Handler>()
     ensures { GoesInTurn H.answer_of H.after }
 {

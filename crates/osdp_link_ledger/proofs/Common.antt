@@ -7,6 +7,7 @@ pub use Rattle.osdp_frame.specs.Packet.{next_sequence, Packet}
 pub use Rattle.osdp_msg.specs.declared.command.Command.{Command}
 pub use Rattle.osdp_msg.specs.declared.event.Event.{Event}
 pub use Rattle.osdp_msg.specs.declared.fault.MsgFault.{MsgFault}
+pub use Rattle.osdp_controller.proofs.Idling.{idle_way}
 pub use Rattle.osdp_controller.specs.Ticking.{begins, gives_up, sends_frame, stays, Ticked, ticks, ticks_in, tries_again}
 pub use Rattle.osdp_controller.specs.declared.fault.ControllerFault.{ControllerFault}
 pub use Rattle.osdp_reader.specs.Queue.{event_for, in_doubt, lacks_room, lapsed, never_offered, offering, Queue as EventQueue, released, unoffered, withdrawn}

@@ -405,7 +405,7 @@ module _ {H : Type 0} (answer_of : H → Command → Answer) (after : H → Comm
     by_move (SetHandler handler) comes = unchanged (after_move answer_of after (SetHandler handler) l) [] comes (tt, h)
     by_move Withdraw comes =
         unchanged (link.withdraws l) (steps_of answer_of after Withdraw l g) comes
-        (withdrawing l.controller.session.state l.controller.waiting l.reader.queue l.to_reader l.to_controller (due_of l s) g h)
+        (withdrawing l.controller.session.state l.controller.waiting l.reader.queue l.to_reader l.to_controller (due_of l s) g out h)
     by_move (Retarget address) comes =
         let refusal = controllers.retarget_refusal address l.controller in
         unchanged (link.retargets refusal address l) [] comes (tt, retargeting refusal address l (due_of l s) g h)

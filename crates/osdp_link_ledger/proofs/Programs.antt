@@ -6,6 +6,7 @@ use Rattle.osdp_controller.specs.Machine as controllers
 use Rattle.osdp_controller_laws.proofs.Closed.{was_closed}
 use Rattle.osdp_reader.specs.Queue.{Queue as EventQueue, empty_queue, queued}
 use Rattle.osdp_link_laws.specs.Link as link
+use Rattle.osdp_link_laws.proofs.OnItsWay.{kept_beside, kept_is, withdrawn_beside, withdrawn_is}
 use Rattle.osdp_link_ledger.proofs.Facts.{OutIs, out_of, reopened}
 use Rattle.osdp_link_ledger.proofs.Lists.{IsOfferedFront, commands, front_more, front_order, not_offered, one_more_unoffered, still_front}
 use Rattle.osdp_link_ledger.proofs.Ties.{ActedIs, IsTied, Lasts, Leads, OffersAre, Placed, SessionIs, Ties}
@@ -84,21 +85,61 @@ queueing {H} false e l d g placed h =
 
 -- ---- a command is withdrawn
 
-closed_session : (q : EventQueue) (ps qs : List Packet) (d : Due) (g : Ledger) (ahead : List Order) → SessionIs Closed q ps qs d g
-    → SessionIs Closed q ps qs d (record g { ahead = ahead })
-closed_session q ps qs d g ahead (inl s) = inl s
-closed_session q ps qs d g ahead (inr (inl s, offers)) = absurd (let e : false ≡ true = s.way in cc)
-closed_session q ps qs d g ahead (inr (inr s, offers)) = inr (inr s, offers)
+-- nothing is outstanding: nothing was acted on, and nothing is late
+pub nothing_out : (ahead : List Order) (acted : Option Reply) (owing : List (Command × Reply)) (pend : List Command) → ActedIs ahead acted owing
+    → [] ≡ pend ++ map asked owing → (acted ≡ None) × (pend ≡ [])
+nothing_out ahead acted owing pend acts out =
+    let e : 0 ≡ length (pend ++ map asked owing) = ap length out in
+    let both = length-append pend (map asked owing) in
+    (by_owing acts, nil_from_length pend (omega (arith, e, both)))
+  where
+    by_owing : ActedIs ahead acted owing → acted ≡ None
+    by_owing (inl none) = none.acted
+    by_owing (inr one) =
+        let e : 0 ≡ length (pend ++ map asked owing) = ap length out in
+        let long : length owing ≡ 1 = ap length one.owing in
+        absurd (omega (arith, e, long, length-append pend (map asked owing), length-map owing asked))
 
-pub withdrawing : (state : State) (waiting : List Command) (q : EventQueue) (ps qs : List Packet) (d : Due) (g : Ledger) → Ties state waiting q ps qs d g
+-- where none is on its way, none was acted on that isn't told
+none_on_way : (state : State) (q : EventQueue) (ps qs : List Packet) (d : Due) (g : Ledger) → outstanding_command state ≡ None → OutIs state d → SessionIs state q ps qs d g
+    → g.acted ≡ None
+none_on_way state q ps qs d g none f (inl s) = s.acted
+none_on_way state q ps qs d g none f (inr (inl s, offers)) = (nothing_out g.ahead g.acted d.owing d.pend s.acted (ap option_to_list (sym none) ∙ f s.way)).0
+none_on_way state q ps qs d g none f (inr (inr s, offers)) = s.acted
+
+acted_fewer : (ahead fewer : List Order) (acted : Option Reply) (owing : List (Command × Reply)) → acted ≡ None → ActedIs ahead acted owing → ActedIs fewer acted owing
+acted_fewer ahead fewer acted owing none (inl is) = inl is
+acted_fewer ahead fewer acted owing none (inr one) = absurd (let some : acted ≡ Some one.answer = one.acted in cc)
+
+fewer_session : (state : State) (q : EventQueue) (ps qs : List Packet) (d : Due) (g : Ledger) (ahead : List Order) → g.acted ≡ None → SessionIs state q ps qs d g
+    → SessionIs state q ps qs d (record g { ahead = ahead })
+fewer_session state q ps qs d g ahead none (inl s) = inl s
+fewer_session state q ps qs d g ahead none (inr (inl s, offers)) =
+    inr (inl (record { way = s.way; acted = acted_fewer g.ahead ahead g.acted d.owing none s.acted; late = s.late }), offers)
+fewer_session state q ps qs d g ahead none (inr (inr s, offers)) = inr (inr s, offers)
+
+pub withdrawing : (state : State) (waiting : List Command) (q : EventQueue) (ps qs : List Packet) (d : Due) (g : Ledger) → OutIs state d → Ties state waiting q ps qs d g
     → Leads (withdraws (controllers.withdrawn_in state waiting) g) g (Ties state (controllers.kept_in state waiting) q ps qs d)
-withdrawing Closed [] q ps qs d g h = (tt, h)
-withdrawing Closed (w ∷ rest) q ps qs d g h =
-    let front = front_order g.ahead w rest h.ahead in (
-      ((h.is_open, (drop 1 g.ahead, front.0)), tt),
-      record { ahead = front.1; is_open = h.is_open; cards = h.cards; front = h.front; session = closed_session q ps qs d g (drop 1 g.ahead) h.session },
-    )
-withdrawing state waiting q ps qs d g h = (tt, h)
+withdrawing state waiting q ps qs d g f h =
+    subst (λ (k : Option Command × List Command). Leads (withdraws k.0 g) g (Ties state k.1 q ps qs d))
+    (λ i. (sym (withdrawn_is state waiting) i, sym (kept_is state waiting) i)) (beside (outstanding_command state) refl waiting h)
+  where
+    beside : (o : Option Command) → outstanding_command state ≡ o → (ws : List Command) → Ties state ws q ps qs d g
+        → Leads (withdraws (withdrawn_beside o ws) g) g (Ties state (kept_beside o ws) q ps qs d)
+    beside (Some c) out ws is = (tt, is)
+    beside None out [] is = (tt, is)
+    beside None out (w ∷ rest) is =
+        let front = front_order g.ahead w rest (is.ahead ∙ ap (λ o. option_to_list o ++ w ∷ rest) out) in
+        let none = none_on_way state q ps qs d g out f is.session in (
+          ((none, (drop 1 g.ahead, front.0)), tt),
+          record {
+            ahead = front.1 ∙ sym (ap (λ o. option_to_list o ++ rest) out);
+            is_open = is.is_open;
+            cards = is.cards;
+            front = is.front;
+            session = fewer_session state q ps qs d g (drop 1 g.ahead) none is.session;
+          },
+        )
 
 -- ---- an address is set
 
@@ -193,21 +234,6 @@ restarting_device state waiting q ps qs d g room h = (
 )
 
 -- ---- a session that ends over the order in front
-
--- nothing is outstanding: nothing was acted on, and nothing is late
-pub nothing_out : (ahead : List Order) (acted : Option Reply) (owing : List (Command × Reply)) (pend : List Command) → ActedIs ahead acted owing
-    → [] ≡ pend ++ map asked owing → (acted ≡ None) × (pend ≡ [])
-nothing_out ahead acted owing pend acts out =
-    let e : 0 ≡ length (pend ++ map asked owing) = ap length out in
-    let both = length-append pend (map asked owing) in
-    (by_owing acts, nil_from_length pend (omega (arith, e, both)))
-  where
-    by_owing : ActedIs ahead acted owing → acted ≡ None
-    by_owing (inl none) = none.acted
-    by_owing (inr one) =
-        let e : 0 ≡ length (pend ++ map asked owing) = ap length out in
-        let long : length owing ≡ 1 = ap length one.owing in
-        absurd (omega (arith, e, long, length-append pend (map asked owing), length-map owing asked))
 
 -- the outstanding one is late where the device hasn't acted on it
 pub front_late : (ahead : List Order) (acted : Option Reply) (owing : List (Command × Reply)) (pend : List Command) (o : Order) (c : Command)

@@ -1,5 +1,5 @@
 -- What a report says of the controller's state before it and after it, and what a tick does.
-use Rattle.osdp_link_ledger.proofs.Common.{◌≡◌, ◌⊎◌, ◌+◌, ℕ, true, false, leb, ltb, List, [], ◌∷◌, ◌++◌, Option, Some, None, refl, sym, subst, ap, ◌∙◌, inl, inr, option_to_list, Packet, next_sequence, event_in, Command, Event, Reply, meaning_of, submitted_command, Ticked, begins, gives_up, sends_frame, stays, ticks, ticks_in, tries_again, Exchange, Opening, Polling, Asking, NotTaken, NumberRefused, Plain, Report, Session, State, Closed, Quiet, Idle, Waiting, Pausing, Open, IsRead, both, is_under_way, opens}
+use Rattle.osdp_link_ledger.proofs.Common.{◌≡◌, ◌⊎◌, ◌+◌, ℕ, true, false, leb, ltb, List, [], ◌∷◌, ◌++◌, Option, Some, None, refl, sym, subst, ap, ◌∙◌, inl, inr, option_to_list, Packet, event_in, Command, Event, Reply, meaning_of, submitted_command, Ticked, begins, idle_way, gives_up, sends_frame, stays, ticks, ticks_in, tries_again, Exchange, Opening, Polling, Asking, NotTaken, NumberRefused, Plain, Report, Session, State, Closed, Quiet, Idle, Waiting, Pausing, Open, IsRead, both, is_under_way, opens}
 use Rattle.osdp_msg.specs.declared.command_fields.Communication.{Communication}
 use Rattle.osdp_msg.specs.declared.reply_fields.PdId.{PdId}
 use Rattle.osdp_controller.specs.Hearing.{Heard, answered, com_of, command_answered, comset_of, hears, hears_busy, hears_in, ignores, is_ack, is_from_reader, is_numbered, loses, moved_by, opening_answered, pausing_hears, pd_id_of, poll_told, rests, waiting_hears}
@@ -142,12 +142,11 @@ tick_in (Quiet until) s waiting e =
     both (TickIs (Quiet until) waiting) (leb until s.greatest) (begins Opening 0 s waiting) (stays s waiting)
     (inr (inl (record { opening = refl; told = refl; ahead = refl; before = refl; way = refl })))
     (staying (Quiet until) s waiting e)
-tick_in (Idle due) s [] e =
-    both (TickIs (Idle due) []) (leb due s.greatest) (begins Polling (next_sequence s.number) s []) (stays s [])
-    (inl (record { opening = refl; told = refl; ahead = refl; way = refl; silent = λ way. absurd cc; closed = λ closed. absurd cc }))
-    (staying (Idle due) s [] e)
-tick_in (Idle due) s (c ∷ rest) e =
-    inl (record { opening = refl; told = refl; ahead = refl; way = refl; silent = λ way. absurd cc; closed = λ closed. absurd cc })
+tick_in (Idle due) s waiting e =
+    idle_way (TickIs (Idle due) waiting) due s waiting
+    (λ reached. inl (record { opening = refl; told = refl; ahead = refl; way = refl; silent = λ way. absurd cc; closed = λ closed. absurd cc }))
+    (λ ahead. staying (Idle due) s waiting e)
+    (λ c rest is. inl (record { opening = refl; told = refl; ahead = sym is; way = refl; silent = λ way. absurd cc; closed = λ closed. absurd cc }))
 tick_in (Waiting until k o) s waiting e =
     both (TickIs (Waiting until k o) waiting) (leb until s.greatest) (tries_again k o s waiting) (stays s waiting)
     (both (TickIs (Waiting until k o) waiting) (ltb k s.config.sends) (sends_frame (k + 1) o s waiting) (gives_up o s waiting)

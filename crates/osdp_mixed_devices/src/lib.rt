@@ -22,8 +22,8 @@ pub fn either_does_the_same<A: Handler, B: Handler>()
 {}
 
 /// Where a panel in C has devices of which some are in C and some are run by lines, each entry keeps the ledger's promises, as
-/// law `c_programs_hold_once` of `osdp_programs_ledger` says of devices in C alone. The same of a panel by lines. The rule for programs may stand for the
-/// premise on addresses.
+/// law `c_programs_hold_once` of `osdp_programs_ledger` says of devices in C alone. The same of a panel by lines. The rule for
+/// programs may stand for the premise on addresses.
 pub fn mixed_programs_hold_once()
     ensures c { ProgramsHoldOnce c_panel (either_device c_device line_device) (answer_of_either program_answer status_answer) (after_either program_after status_after) }
     ensures c_ruled { RuledProgramsHoldOnce c_panel (either_device c_device line_device) (answer_of_either program_answer status_answer) (after_either program_after status_after) }

@@ -13,6 +13,7 @@ use Rattle.osdp_frame.specs.Packed.{packed}
 use Rattle.osdp_msg.specs.declared.command_fields.Communication.{Communication}
 use Rattle.osdp_msg.specs.declared.reply_fields.PdId.{PdId}
 use Rattle.osdp_monitor_laws.proofs.Numbers.{next_above_zero, next_differs}
+use Rattle.osdp_controller.proofs.Idling.{idle_way}
 
 -- the frame of an exchange
 abbrev pub frame : ℕ → ControllerConfig → Exchange → Packet
@@ -108,11 +109,11 @@ module _ (reached : Bool) (k : Known) where
   begin_fits x number s waiting may = record { command = refl; address = refl; may = may; config = refl; out = λ r j out. out }
 
   idle_fits : (waiting : List Command) (due : ℕ) (s : Session) → IsAtRest k s.number → s.state ≡ Idle due → Ticks s (idle_ticks waiting due s) reached k
-  idle_fits (c ∷ rest) due s fits is = begin_fits (Asking c) (next_sequence s.number) s rest (next_may k (frame (next_sequence s.number) s.config (Asking c)) s.number k.last refl refl fits)
-  idle_fits [] due s fits is =
-      cond_both (nat_le due s.greatest) (begins Polling (next_sequence s.number) s []) (stays s []) (λ t. Ticks s t reached k)
-      (λ _. begin_fits Polling (next_sequence s.number) s [] (next_may k (frame (next_sequence s.number) s.config Polling) s.number k.last refl refl fits))
+  idle_fits waiting due s fits is =
+      idle_way (λ t. Ticks s t reached k) due s waiting
+      (λ _. begin_fits Polling (next_sequence s.number) s waiting (next_may k (frame (next_sequence s.number) s.config Polling) s.number k.last refl refl fits))
       (λ _. record { config = refl; fits = subst (λ state. FitsIn state s.number s.config reached k) (sym is) fits })
+      (λ c rest e. begin_fits (Asking c) (next_sequence s.number) s rest (next_may k (frame (next_sequence s.number) s.config (Asking c)) s.number k.last refl refl fits))
 
   send_fits : (sends : ℕ) (o : Outstanding) (s : Session) (waiting : List Command) → IsOut reached k (frame s.number s.config o.exchange)
       → Ticks s (sends_frame sends o s waiting) reached k

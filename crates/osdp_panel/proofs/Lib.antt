@@ -1,4 +1,3 @@
 pub mod Common
-mod Marking
-mod Moments
-pub mod Ordering
+mod Keeping
+mod Expiring

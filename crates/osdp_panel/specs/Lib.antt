@@ -1,5 +1,7 @@
-pub mod Turns
-pub mod Laws
+pub mod Orders
+pub mod Giving
+pub mod Telling
 pub mod Sending
+pub mod Deadlines
 pub mod Panels
-pub mod Ordering
+pub mod Kept

@@ -1,19 +1,47 @@
--- How a panel comes about.
-use Rattle.std.specs.Prelude.{◌≡◌, Bool, Result, Ok, Err}
+-- How a panel comes about, and how a device is added.
+use Rattle.std.specs.Prelude.{◌≡◌, ℕ, ◌+◌, true, false, List, [], ◌∷◌, ◌++◌, length, Option, Some, None, Result, Ok, Err}
 use Rattle.osdp_bus.specs.declared.config.BusConfig.{BusConfig}
 use Rattle.osdp_bus.specs.declared.fault.BusFault.{BusFault}
 use Rattle.osdp_bus.specs.declared.fault.BusFault.TheVariants.{NoMemory, OutOfRange}
-use Rattle.osdp_bus.specs.Buses.{new_bus}
+use Rattle.osdp_bus.specs.Buses.{BusState, new_bus}
+use Rattle.osdp_bus.specs.Machine.{add_refusal, after_add}
 use Rattle.osdp_bus.specs.Settings.{IsBusConfig}
-use Rattle.osdp_orders.specs.Orders.{PanelState, both, new_orders}
+use Rattle.osdp_panel.specs.Orders.{Orders, PanelState}
 
--- a bus without devices, whose orders wait for POLLs or not
-abbrev pub new_panel : Bool → BusConfig → PanelState
-new_panel between config = both (new_orders between config.room) (new_bus config)
+-- a panel asks a device for its events between any two of its orders, whatever its settings say of that
+abbrev pub panel_config : BusConfig → BusConfig
+panel_config config = record config { poll_between_orders = true }
+
+-- a bus without devices. Of an entry there may be one order on its way beside those that wait
+abbrev pub new_panel : BusConfig → PanelState
+new_panel config = record {
+  bus = new_bus (panel_config config);
+  orders = [];
+  places = config.room.messages + 1;
+  told = 0;
+  polled = 0;
+  brought = false;
+  withheld = false;
+  last = None;
+}
 
 -- the settings are judged before memory is asked for
-abbrev pub NewEnds : Bool → BusConfig → Result PanelState BusFault → Type 0
-NewEnds between config (Ok p) = IsBusConfig config × (p ≡ new_panel between config)
-NewEnds between config (Err OutOfRange) = IsBusConfig config → ⊥
-NewEnds between config (Err NoMemory) = IsBusConfig config
-NewEnds between config (Err _) = ⊥
+abbrev pub NewEnds : BusConfig → Result PanelState BusFault → Type 0
+NewEnds config (Ok p) = IsBusConfig config × (p ≡ new_panel config)
+NewEnds config (Err OutOfRange) = IsBusConfig config → ⊥
+NewEnds config (Err NoMemory) = IsBusConfig config
+NewEnds config (Err _) = ⊥
+
+-- a new entry has no order, and its first one has the number that it is added with
+abbrev pub new_orders : ℕ → ℕ → Orders
+new_orders places next = record { moments = []; room = places; next = next }
+
+abbrev pub after_add_at : ℕ → ℕ → PanelState → PanelState
+after_add_at address next p = record p { bus = after_add address p.bus; orders = p.orders ++ new_orders p.places next ∷ [] }
+
+-- how it ends: the new device's entry, or a refusal, or else there is no memory; then nothing has changed
+abbrev pub AddEnds : ℕ → ℕ → PanelState → PanelState → Result ℕ BusFault → Type 0
+AddEnds address next old new (Ok entry) =
+    (add_refusal address old.bus ≡ None) × (entry ≡ length old.bus.devices.entries) × (new ≡ after_add_at address next old)
+AddEnds address next old new (Err NoMemory) = (add_refusal address old.bus ≡ None) × (new ≡ old)
+AddEnds address next old new (Err fault) = (add_refusal address old.bus ≡ Some fault) × (new ≡ old)

@@ -1,30 +1,46 @@
-//! What a turn has its program send.
+//! What a tick has its program send.
 
-ghost use Rattle.std.specs.Prelude.{◌≡◌, ◌↔◌, IsSome, IsTrue};
-ghost use Rattle.osdp_panel.specs.Sending.{bytes_sent};
+ghost use Rattle.std.specs.Prelude.{◌≡◌, []};
 
-use crate::Turn;
+use osdp_frame::Burst;
+use std::marker::Model;
 
-/// The burst of a turn hasn't gone out yet. It can't be dropped, so a program that forgets the burst isn't compiled: `bytes` has it, and takes this.
+/// A place for the burst of a tick. Its bytes are given out by `Panel::write` alone.
+#[derive(Debug, Drop)]
+pub struct Turn {
+    pub(crate) burst: Burst,
+}
+
+impl Model for Turn {
+    ghost use Rattle.std.specs.Prelude.{ℕ, List};
+
+    ghost Value = { List ℕ };
+
+    ghost view = { λ t. t.burst.items };
+}
+
+impl Turn {
+    /// A place without a burst.
+    pub fn new() -> Turn
+        ensures { result ≡ [] }
+    {
+        Turn {
+            burst: Burst::new(),
+        }
+    }
+}
+
+/// The burst of a tick hasn't gone out yet. It can't be dropped, so a program that forgets the burst isn't compiled: `Panel::write` takes this, and gives the bytes.
 pub struct Unsent(());
 
 impl Unsent {
-    /// What is to be sent of a turn. None where it has no burst.
-    pub(crate) fn of(turn: &Turn) -> Option<Unsent>
-        ensures { IsSome result ↔ IsTrue turn.now.sends }
-    {
-        if turn.sends { Some(Unsent(())) } else { None }
+    /// A burst is to go out.
+    pub(crate) fn new() -> Unsent {
+        Unsent(())
     }
 
-    /// The bytes that go out now, before the next turn: those of the turn's burst, and none where it has none.
-    pub fn bytes(self, turn: &Turn) -> &[u8]
-        ensures { result.now ≡ bytes_sent turn.now.sends turn.now.burst }
-    {
+    /// It goes out, or is lost.
+    pub(crate) fn ends(self) {
         let Unsent(()) = self;
-        if turn.sends {
-            turn.burst.as_slice()
-        } else {
-            &[]
-        }
     }
 }

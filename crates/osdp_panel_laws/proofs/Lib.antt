@@ -1,3 +1,7 @@
 mod Making
 mod Equal
 mod Written
+pub mod Calling
+mod InTime
+mod Forever
+mod Numbers

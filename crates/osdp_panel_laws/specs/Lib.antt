@@ -1,4 +1,7 @@
-pub mod Laws
 pub mod Making
 pub mod Equal
 pub mod Written
+pub mod Calls
+pub mod InTime
+pub mod Forever
+pub mod Numbers

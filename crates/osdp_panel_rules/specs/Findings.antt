@@ -42,13 +42,22 @@ damage_finding Anew = Either
 damage_finding Next = Either
 damage_finding _ = Nothing
 
-abbrev pub not_next : Sequel → Finding
-not_next Next = Broken
-not_next _ = Nothing
+-- a copy begins a session where it has number 0, and else tells nothing, since what was said may be lost
+abbrev pub copy_anew : ℕ → Finding
+copy_anew number = if number == 0 then Kept else Nothing
 
--- a session begins with number 0; a copy tells nothing, since what was said may be lost
-abbrev pub anew_finding : ℕ → Sequel → Finding
-anew_finding number s = if number == 0 then Kept else not_next s
+-- after NAK 4 a session begins with number 0, and no other packet comes
+abbrev pub refusal_finding : ℕ → Sequel → Finding
+refusal_finding number Again = copy_anew number
+refusal_finding number Anew = Kept
+refusal_finding number _ = Broken
+
+-- so it does after a long silence; another packet with the last number is a wrong copy
+abbrev pub lapse_finding : ℕ → Sequel → Finding
+lapse_finding number Again = copy_anew number
+lapse_finding number Anew = Kept
+lapse_finding number Altered = Nothing
+lapse_finding number _ = Broken
 
 -- an answer is followed by the next number; a copy tells nothing, since the answer may be lost
 abbrev pub taken_finding : Sequel → Finding

@@ -8,21 +8,21 @@ use Rattle.osdp_panel_rules.specs.Saying.{is_answer, says}
 use Rattle.osdp_rules.specs.Packets.{same_packet}
 
 abbrev pub nothing_known : Known
-nothing_known = record { last = None; answered = false; said = Silence }
+nothing_known = record { last = None; moment = 0; answered = false; said = Silence }
 
 abbrev pub is_last : Option Packet → Packet → Bool
 is_last None q = false
 is_last (Some p) q = same_packet p q
 
--- a packet to the device: nothing was said to it yet, and a copy counts as answered if an earlier one was
-abbrev pub after_sent : Known → Packet → Known
-after_sent k q = record { last = Some q; answered = is_last k.last q && k.answered; said = Silence }
+-- a packet to the device at a moment: nothing was said to it yet, and a copy counts as answered if an earlier one was
+abbrev pub after_sent : ℕ → Known → Packet → Known
+after_sent moment k q = record { last = Some q; moment = moment; answered = is_last k.last q && k.answered; said = Silence }
 
 -- a packet of the line: a reply, and what goes to another device, tell nothing; whatever goes to 127 may change each device
-abbrev pub after_packet : ℕ → Known → Packet → Known
-after_packet address k q =
+abbrev pub after_packet : ℕ → ℕ → Known → Packet → Known
+after_packet address moment k q =
     if q.reply then k
-    else if q.address == address then after_sent k q
+    else if q.address == address then after_sent moment k q
     else if q.address == 127 then nothing_known
     else k
 

@@ -1,7 +1,7 @@
 //! What the next packet of a panel shows of each rule.
 
 ghost use Rattle.std.specs.Prelude.{◌≡◌};
-ghost use Rattle.osdp_panel_rules.specs.Findings.{again_finding, anew_finding, copy_finding, damage_finding, is_order, not_next, online_finding, taken_finding, turn_finding, wait_finding};
+ghost use Rattle.osdp_panel_rules.specs.Findings.{again_finding, copy_anew, copy_finding, damage_finding, is_order, lapse_finding, online_finding, refusal_finding, taken_finding, turn_finding, wait_finding};
 
 use crate::sequel::Sequel;
 use osdp_frame::FrameView;
@@ -52,24 +52,37 @@ pub(crate) fn damage_finding(sequel: Sequel) -> Finding
     }
 }
 
-/// The session doesn't go on with the next number.
-fn not_next(sequel: Sequel) -> Finding
-    ensures { result ≡ not_next sequel }
-{
-    match sequel {
-        Sequel::Next => Finding::Broken,
-        Sequel::Again | Sequel::Anew | Sequel::Altered | Sequel::Out => Finding::Nothing,
-    }
-}
-
-/// A session begins with number 0; a copy tells nothing.
-pub(crate) fn anew_finding(number: u8, sequel: Sequel) -> Finding
-    ensures { result ≡ anew_finding number sequel }
+/// A copy begins a session where it has number 0, and else tells nothing, since what was said may be lost.
+fn copy_anew(number: u8) -> Finding
+    ensures { result ≡ copy_anew number }
 {
     if number == 0 {
         Finding::Kept
     } else {
-        not_next(sequel)
+        Finding::Nothing
+    }
+}
+
+/// After NAK 4 a session begins with number 0, and no other packet comes.
+pub(crate) fn refusal_finding(number: u8, sequel: Sequel) -> Finding
+    ensures { result ≡ refusal_finding number sequel }
+{
+    match sequel {
+        Sequel::Again => copy_anew(number),
+        Sequel::Anew => Finding::Kept,
+        Sequel::Next | Sequel::Altered | Sequel::Out => Finding::Broken,
+    }
+}
+
+/// So it does after a long silence. Another packet with the last number is a wrong copy.
+pub(crate) fn lapse_finding(number: u8, sequel: Sequel) -> Finding
+    ensures { result ≡ lapse_finding number sequel }
+{
+    match sequel {
+        Sequel::Again => copy_anew(number),
+        Sequel::Anew => Finding::Kept,
+        Sequel::Altered => Finding::Nothing,
+        Sequel::Next | Sequel::Out => Finding::Broken,
     }
 }
 

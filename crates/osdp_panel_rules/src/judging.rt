@@ -5,8 +5,8 @@ ghost use Rattle.osdp_panel_rules.specs.Judging.{judged, last_judged, online_jud
 
 use crate::aspect::Aspect;
 use crate::findings::{
-    again_finding, anew_finding, copy_finding, damage_finding, is_order, online_finding,
-    taken_finding, turn_finding, wait_finding,
+    again_finding, copy_finding, damage_finding, is_order, lapse_finding, online_finding,
+    refusal_finding, taken_finding, turn_finding, wait_finding,
 };
 use crate::known::Known;
 use crate::said::Said;
@@ -37,9 +37,8 @@ fn unanswered_judged(
             }
         }
         (Aspect::Damage, Said::Damage) => damage_finding(sequel),
-        (Aspect::Lapse, Said::Silence) | (Aspect::Refusal, Said::Refusal) => {
-            anew_finding(number, sequel)
-        }
+        (Aspect::Lapse, Said::Silence) => lapse_finding(number, sequel),
+        (Aspect::Refusal, Said::Refusal) => refusal_finding(number, sequel),
         _ => Finding::Nothing,
     }
 }
@@ -99,8 +98,8 @@ fn last_judged(
 }
 
 /// What a packet to the device shows.
-fn sent_judged(aspect: Aspect, known: &Known, packet: &FrameView<'_>, wait: u64) -> Finding
-    ensures { result ≡ sent_judged aspect known.now packet.now wait }
+fn sent_judged(aspect: Aspect, known: &Known, packet: &FrameView<'_>, moment: u64) -> Finding
+    ensures { result ≡ sent_judged aspect known.now packet.now moment }
 {
     match aspect {
         Aspect::Asks => Finding::Kept,
@@ -122,6 +121,7 @@ fn sent_judged(aspect: Aspect, known: &Known, packet: &FrameView<'_>, wait: u64)
             Some(last) => {
                 let last = last.view();
                 let sequel = sequel_of(&last, packet);
+                let wait = moment.saturating_sub(known.moment);
                 last_judged(aspect, known, &last, packet.seq().get(), sequel, wait)
             }
             None => Finding::Nothing,
@@ -139,22 +139,22 @@ fn reply_judged(aspect: Aspect) -> Finding
     }
 }
 
-/// What a packet shows of a rule that the panel sends `wait` milliseconds after its last one. `address` is the device's. What goes elsewhere shows
-/// nothing.
+/// What a packet shows of a rule that comes at a moment, in milliseconds of the clock by which the last one came. `address` is the device's. What goes
+/// elsewhere shows nothing.
 pub fn judged(
     aspect: Aspect,
     address: Address,
     known: &Known,
     packet: &FrameView<'_>,
-    wait: u64,
+    moment: u64,
 ) -> Finding
-    ensures { result ≡ judged aspect address known.now packet.now wait }
+    ensures { result ≡ judged aspect address known.now packet.now moment }
 {
     if packet.address().get() != address.get() {
         Finding::Nothing
     } else if packet.is_reply() {
         reply_judged(aspect)
     } else {
-        sent_judged(aspect, known, packet, wait)
+        sent_judged(aspect, known, packet, moment)
     }
 }

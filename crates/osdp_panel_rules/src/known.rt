@@ -12,6 +12,8 @@ use osdp_rules::same_packet;
 pub struct Known {
     /// The last packet to the device.
     pub last: Option<Frame>,
+    /// The moment, in milliseconds, at which its last copy came.
+    pub moment: u64,
     /// Whether an answer to that packet has gone out since its first copy.
     pub answered: bool,
     /// What was said after its last copy.
@@ -35,6 +37,7 @@ impl Known {
     {
         Known {
             last: None,
+            moment: 0,
             answered: false,
             said: Said::Silence,
         }
@@ -51,25 +54,26 @@ impl Known {
     }
 
     /// What is known after a packet to the device.
-    fn after_sent(self, packet: &FrameView<'_>) -> Known
-        ensures { result ≡ after_sent self packet.now }
+    fn after_sent(self, packet: &FrameView<'_>, moment: u64) -> Known
+        ensures { result ≡ after_sent moment self packet.now }
     {
         let answered = self.is_last(packet) && self.answered;
         Known {
             last: Some(packet.to_frame()),
+            moment,
             answered,
             said: Said::Silence,
         }
     }
 
-    /// What is known after a packet that was read on the line. `address` is the device's.
-    pub fn after_packet(self, address: Address, packet: &FrameView<'_>) -> Known
-        ensures { result ≡ after_packet address self packet.now }
+    /// What is known after a packet that was read on the line at a moment. `address` is the device's.
+    pub fn after_packet(self, address: Address, packet: &FrameView<'_>, moment: u64) -> Known
+        ensures { result ≡ after_packet address moment self packet.now }
     {
         if packet.is_reply() {
             self
         } else if packet.address().get() == address.get() {
-            self.after_sent(packet)
+            self.after_sent(packet, moment)
         } else if packet.address().get() == 127 {
             Known::nothing()
         } else {
@@ -88,6 +92,7 @@ impl Known {
         Known {
             answered: self.answered || said.is_answer(),
             said: said_first(self.said, said),
+            moment: self.moment,
             last: self.last,
         }
     }
@@ -99,6 +104,7 @@ impl Known {
         Known {
             answered: self.answered,
             said: said_first(self.said, Said::Noise),
+            moment: self.moment,
             last: self.last,
         }
     }

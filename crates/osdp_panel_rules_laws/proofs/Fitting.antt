@@ -12,7 +12,12 @@ use Rattle.osdp_frame.specs.Packed.{packed}
 use Rattle.osdp_msg.specs.declared.command.Command.{Command}
 use Rattle.osdp_msg.specs.declared.command_fields.Communication.{Communication}
 use Rattle.osdp_msg.specs.declared.reply_fields.PdId.{PdId}
-use Rattle.osdp_panel_rules_laws.proofs.Suiting.{Suits}
+use Rattle.osdp_controller.proofs.Idling.{idle_way}
+
+-- a packet follows the last one in order
+abbrev pub Suits : Known → Packet → Type 0
+Suits k q = (p : Packet) → k.last ≡ Some p
+    → (p ≡ q) ⊎ (q.sequence ≡ 0) ⊎ ((q.sequence ≡ next_sequence p.sequence) × (k.answered ≡ true))
 
 -- the frame of an exchange
 abbrev pub frame : ℕ → ControllerConfig → Exchange → Packet
@@ -70,12 +75,11 @@ module _ (Here : Type 0) (sent : Option Packet) (k : Known) where
       inr (inr (next ∙ ap next_sequence (sym is.0), is.1))
 
   idle_fits : (waiting : List Command) (due : ℕ) (s : Session) → (Here → IsAtRest k s.number) → s.state ≡ Idle due → Ticks s (idle_ticks waiting due s)
-  idle_fits (c ∷ rest) due s fits is =
-      begin_fits (Asking c) (next_sequence s.number) s rest (λ here. next_suits (frame (next_sequence s.number) s.config (Asking c)) s.number refl (fits here))
-  idle_fits [] due s fits is =
-      cond_both (nat_le due s.greatest) (begins Polling (next_sequence s.number) s []) (stays s []) (λ t. Ticks s t)
-      (λ _. begin_fits Polling (next_sequence s.number) s [] (λ here. next_suits (frame (next_sequence s.number) s.config Polling) s.number refl (fits here)))
+  idle_fits waiting due s fits is =
+      idle_way (λ t. Ticks s t) due s waiting
+      (λ _. begin_fits Polling (next_sequence s.number) s waiting (λ here. next_suits (frame (next_sequence s.number) s.config Polling) s.number refl (fits here)))
       (λ _. record { config = refl; fits = λ here. subst (λ state. FitsIn state s.number s.config sent k) (sym is) (fits here) })
+      (λ c rest e. begin_fits (Asking c) (next_sequence s.number) s rest (λ here. next_suits (frame (next_sequence s.number) s.config (Asking c)) s.number refl (fits here)))
 
   send_fits : (sends : ℕ) (o : Outstanding) (s : Session) (waiting : List Command) → (Here → IsOut sent k (frame s.number s.config o.exchange))
       → Ticks s (sends_frame sends o s waiting)

@@ -1,6 +1,11 @@
 pub mod Common
-pub mod Suiting
+pub mod Saying
+pub mod Sensing
+pub mod Hearing
+pub mod Following
+pub mod Judged
+pub mod Looking
+pub mod Telling
 pub mod Fitting
 pub mod Running
-pub mod Found
-pub mod Knowing
+pub mod Instances

@@ -1,67 +1,45 @@
-//! What the rules of a panel come to, said apart from them: whom they never accuse, what they leave open, and what they find. The functions do
+//! What the rules of a panel come to, said of what went over the line: whom they never accuse, what they leave open, and what they find. The functions do
 //! nothing: their contracts are laws.
 #![tactic(auto)]
 
-ghost use Rattle.osdp_panel_rules_laws.specs.Laws.{AnsweredBreaksNothing, BreaksNoRule, CopyBreaksNothing, DamageBreaksNothing, FindsAltered, FindsHaste, FindsLateness, FindsOutOfTurn, FindsReply, FindsUnanswered, FirstBreaksNothing, KeepsOnline, KeepsWait, KnowsAnswers, KnowsBusyWithZero, KnowsCopies, KnowsNewPackets, KnowsNoOthers, KnowsOrders, KnowsQuestions, KnowsWhatWasSaid, ZeroBreaksNothing};
+ghost use Rattle.osdp_panel_rules.specs.declared.aspect.Aspect.{Aspect};
+ghost use Rattle.osdp_panel_rules_laws.specs.Instances.{CanBeBroken, CanBeKept, CanBeOpen, OpensWell};
+ghost use Rattle.osdp_panel_rules_laws.specs.Laws.{BreaksNoRule, Finds, KnowsOrders, KnowsQuestions, NeverAccuses, TellsOk, TellsOpen, TellsUnclear};
 
-/// Whatever its settings, whatever is called at whatever moments, whatever the device says, and whatever the line loses: a panel of our controller
-/// breaks no rule but, by its settings and its program's loop, the two that are judged by the clock.
-pub fn breaks_no_rule()
-    ensures { BreaksNoRule }
+/// A rule is told broken where a packet breaks it at a place at which the rule looks, whatever went over the line before and comes later.
+pub fn finds()
+    ensures { Finds }
 {}
 
-/// A packet that is no copy is not answered, and a copy is where an earlier one was. What a controller takes as an answer to it answers it, and nothing else that is said does.
-pub fn knows_answers()
-    ensures new { KnowsNewPackets }
-    ensures copies { KnowsCopies }
-    ensures answers { KnowsAnswers }
-    ensures others { KnowsNoOthers }
+/// A rule is never told broken where no packet breaks it.
+pub fn never_accuses()
+    ensures { NeverAccuses }
 {}
 
-/// BUSY, NAK 1 and NAK 4 with the packet's number, and BUSY with number 0, are known as what they are.
-pub fn knows_what_was_said()
-    ensures put_off { KnowsWhatWasSaid }
-    ensures busy { KnowsBusyWithZero }
+/// Where no packet breaks a rule, it is told as left open exactly where one leaves it open; else as kept exactly where one keeps it; else as unclear.
+pub fn tells_the_others()
+    ensures open { TellsOpen }
+    ensures ok { TellsOk }
+    ensures unclear { TellsUnclear }
 {}
 
-/// What the standard leaves open breaks no rule: number 0 at any time, a packet that comes again, and whatever is sent after NAK 1.
-pub fn leaves_open()
-    ensures zero { ZeroBreaksNothing }
-    ensures copy { CopyBreaksNothing }
-    ensures damage { DamageBreaksNothing }
-{}
-
-/// Nor does the next number after an answer, whatever was said since, nor the first packet that a device hears, whatever its number.
-pub fn leaves_numbers_open()
-    ensures answered { AnsweredBreaksNothing }
-    ensures first { FirstBreaksNothing }
-{}
-
-/// A number out of turn, and another packet with the last number, break their rules.
-pub fn finds_wrong_turns()
-    ensures turn { FindsOutOfTurn }
-    ensures altered { FindsAltered }
-{}
-
-/// So does the next number where the last packet has no answer: nothing was said, or noise, or a packet of another, or BUSY, or NAK 4.
-///
 /// OUT, LED, BUZ, TEXT, COMSET and MFG are orders. POLL, ID, CAP and the status commands aren't.
-pub fn finds_what_goes_on_unanswered()
-    ensures unanswered { FindsUnanswered }
+pub fn knows_orders()
     ensures orders { KnowsOrders }
     ensures questions { KnowsQuestions }
 {}
 
-/// So does a packet as if the device had said it.
-pub fn finds_replies()
-    ensures { FindsReply }
+/// Whatever its settings, whatever is called at whatever moments, whatever the device says, whatever the line loses, and however late an answer comes: a panel of
+/// our controller breaks no rule but, by its settings and its program's loop, the two that are judged by the clock.
+pub fn breaks_no_rule()
+    ensures { BreaksNoRule }
 {}
 
-/// So do a copy that comes too soon, and a session whose next packet comes too late. A copy keeps its rule from 200 ms on, and the next packet up to 8 seconds. By
-/// clocks that differ a copy from 150 ms on is left open, and a packet up to 8.5 seconds.
-pub fn finds_wrong_times()
-    ensures haste { FindsHaste }
-    ensures late { FindsLateness }
-    ensures wait { KeepsWait }
-    ensures online { KeepsOnline }
+/// Each premise has an instance: each rule has a line that keeps it, and, where a packet can do so, one that breaks it and one that leaves it open. A run of our panel
+/// over a line that loses a packet is one of those of which `breaks_no_rule` speaks.
+pub fn each_has_its_line()
+    ensures broken { (aspect : Aspect) → CanBeBroken aspect }
+    ensures open { (aspect : Aspect) → CanBeOpen aspect }
+    ensures kept { (aspect : Aspect) → CanBeKept aspect }
+    ensures runs { OpensWell }
 {}

@@ -1,4 +1,4 @@
-//! Tests of `osdp_panel` with and without POLLs between the orders of a device, and of a burst that is told as unsent.
+//! Tests of `osdp_panel`: of the POLLs between the orders of a device, of a burst that is told as unsent, and of orders that grow old.
 //!
 //! They stand in a crate of their own since a crate with tests is proved twice.
 #![tactic(auto)]
@@ -6,4 +6,8 @@
 #[cfg(test)]
 mod between;
 #[cfg(test)]
+mod lines;
+#[cfg(test)]
 mod unsent;
+#[cfg(test)]
+mod until;

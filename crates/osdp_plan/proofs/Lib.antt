@@ -1,2 +1,3 @@
 mod Judgement
 mod Turns
+mod Wires

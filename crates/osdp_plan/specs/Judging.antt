@@ -1,5 +1,5 @@
 -- Which setting of a plan is too short for its line.
-use Rattle.std.specs.Prelude.{◌≡◌, ◌*◌, ◌≤◌, ◌<◌, Option, Some, None}
+use Rattle.std.specs.Prelude.{◌≡◌, ◌≤◌, ◌<◌, Option, Some, None}
 use Rattle.osdp_plan.specs.declared.judging.TooShort.{TooShort}
 use Rattle.osdp_plan.specs.declared.judging.TooShort.TheVariants.{PacketPasses, AnswerComes, LineIsQuiet}
 use Rattle.osdp_plan.specs.declared.plan.Plan.{Plan}

@@ -1,3 +1,4 @@
 pub mod Figures
 pub mod Judging
 pub mod Plans
+pub mod Wires

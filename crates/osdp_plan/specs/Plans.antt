@@ -1,5 +1,5 @@
 -- What is planned, and the settings of a controller that it gives.
-use Rattle.std.specs.Prelude.{◌+◌, ◌≤◌, false}
+use Rattle.std.specs.Prelude.{◌+◌, ◌≤◌, true}
 use Rattle.osdp_frame.specs.Check.{check_size}
 use Rattle.osdp_frame.specs.declared.check_kind.CheckKind.TheVariants.{Crc}
 use Rattle.osdp_frame.specs.Times.{IsTime, longest_time}
@@ -32,7 +32,6 @@ default_plan = record {
   hold = 0;
   late = 1;
   orders = 0;
-  between = false;
   reply_wait = 200;
   poll_interval = 50;
   sends = 3;
@@ -45,7 +44,7 @@ default_plan = record {
 abbrev pub only_polls : Plan → Plan
 only_polls p = record p { longest = 6 + check_size p.check }
 
--- the controller of a reader
+-- the controller of a reader in a panel: a POLL stands between any two orders
 abbrev pub config_of : Plan → ControllerConfig
 config_of p = record {
   address = 0;
@@ -56,4 +55,5 @@ config_of p = record {
   busy_wait = p.busy_wait;
   busy_limit = p.busy_limit;
   quiet_wait = p.quiet_wait;
+  poll_between_orders = true;
 }

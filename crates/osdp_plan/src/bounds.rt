@@ -108,11 +108,7 @@ impl Plan {
         ensures { result ≡ order_wait others self.now }
     {
         let turns = self.turns(others, u64::from(self.readers));
-        let each = if self.between {
-            u64::from(self.poll_interval) + (turns + turns)
-        } else {
-            turns
-        };
+        let each = u64::from(self.poll_interval) + (turns + turns);
         times(u64::from(self.orders) + 1, each)
     }
 
@@ -120,10 +116,9 @@ impl Plan {
     fn orders_before(&self) -> u64
         requires { IsPlan self.now }
         ensures count { result ≡ orders_before self.now }
-        ensures bound { result ≤ 1024 }
+        ensures bound { result ≤ 1 }
     {
-        let orders = u64::from(self.orders);
-        if self.between { orders.min(1) } else { orders }
+        u64::from(self.orders).min(1)
     }
 
     /// From a card at a reader to its report.

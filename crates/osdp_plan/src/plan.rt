@@ -24,8 +24,6 @@ pub struct Plan {
     pub late: u32,
     /// How many orders of its reader wait before an order or a card, 0 to 1024.
     pub orders: u32,
-    /// Whether a reader is asked for its events between two orders: the next order goes out only once a POLL was answered since the order before.
-    pub between: bool,
     /// How long an answer is waited for.
     pub reply_wait: u32,
     /// From an answer to the next POLL.
@@ -54,7 +52,6 @@ impl Plan {
             hold: 0,
             late: 1,
             orders: 0,
-            between: false,
             reply_wait: 200,
             poll_interval: 50,
             sends: 3,

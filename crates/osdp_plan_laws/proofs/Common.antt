@@ -4,9 +4,9 @@ pub use Rattle.std.proofs.Common.{[], ap, arith, Bool, false, length, List, refl
 pub use Rattle.osdp_controller.specs.declared.config.ControllerConfig.{ControllerConfig}
 pub use Rattle.osdp_bus_laws.specs.Calls.{after_calls, Submit}
 pub use Rattle.osdp_bus_time_laws.specs.Turns.{turns_of}
-pub use Rattle.osdp_time_laws.specs.Lines.{card_time, line_order_time, line_silence_time, turns_time}
+pub use Rattle.osdp_time_laws.specs.Lines.{line_silence_time, turns_time}
 pub use Rattle.osdp_plan.specs.declared.plan.Plan.{Plan}
-pub use Rattle.osdp_plan.specs.Figures.{answered_time, card_wait, exchanges, lost_wait, order_between_time, order_wait, orders_before, poll_round}
-pub use Rattle.osdp_plan_laws.specs.Figures.{CardsAmongOrdersKeepToFigures, CardsKeepToFigures, LaterCardsKeepToFigures, OrdersKeepToFigures, planned_time, RoundsKeepToFigures, SilenceKeepsToFigures}
+pub use Rattle.osdp_plan.specs.Figures.{answered_time, card_wait, exchanges, lost_wait, orders_before, poll_round}
+pub use Rattle.osdp_plan_laws.specs.Figures.{CardsKeepToFigures, OrdersKeepToFigures, planned_time, RoundsKeepToFigures, SilenceKeepsToFigures}
 pub use Rattle.osdp_bus.specs.Buses.{BusState, new_bus}
 pub use Rattle.osdp_bus_time_laws.proofs.Devices.{always_well, Well}

@@ -1,20 +1,24 @@
 -- The figures of a plan are the bounds of the laws in time.
-use Rattle.osdp_plan_laws.proofs.Common.{if◌then◌else◌, min, ◌≡◌, ◌∙◌, ap, sym, subst, refl, ℕ, zero, suc, ◌+◌, ◌-◌, ◌*◌, ◌≤◌, Bool, true, false, List, [], ◌∷◌, length, arith, BusState, turns_of, Well, ControllerConfig, card_time, line_order_time, line_silence_time, turns_time, Plan, answered_time, card_wait, exchanges, lost_wait, order_between_time, order_wait, orders_before, poll_round, CardsAmongOrdersKeepToFigures, CardsKeepToFigures, LaterCardsKeepToFigures, OrdersKeepToFigures, RoundsKeepToFigures, SilenceKeepsToFigures, planned_time}
+use Rattle.osdp_plan_laws.proofs.Common.{if◌then◌else◌, min, ◌≡◌, ◌∙◌, ap, sym, subst, refl, ℕ, zero, suc, ◌+◌, ◌-◌, ◌*◌, ◌≤◌, Bool, true, false, List, [], ◌∷◌, length, arith, BusState, turns_of, Well, ControllerConfig, line_silence_time, turns_time, Plan, answered_time, card_wait, exchanges, lost_wait, orders_before, poll_round, CardsKeepToFigures, RoundsKeepToFigures, SilenceKeepsToFigures, planned_time}
 use Rattle.std.proofs.lemmas.List.{length-replicate}
 use Rattle.std.proofs.Math.Nat.{mul-le-mul_left, mul-le-mul_right}
 use Rattle.osdp_bus.specs.Settings.{controller_config}
-use Rattle.osdp_bus_laws.specs.Calls.{Call, Submit, after_call}
+use Rattle.osdp_bus_laws.specs.Calls.{Call, after_call}
 use Rattle.osdp_bus_time_laws.specs.Laws.{GoesOutBy, time_of}
 use Rattle.osdp_bus_time_laws.specs.Telling.{ToldBy, round_of}
 use Rattle.osdp_bus_time_laws.proofs.InTime.{lines_add_up}
-use Rattle.osdp_bus_time_laws.proofs.Ordered.{orders_go_out, polls_go_out}
+use Rattle.osdp_bus_time_laws.proofs.Ordered.{polls_go_out}
 use Rattle.osdp_bus_time_laws.proofs.Silent.{silence_is_told}
-use Rattle.osdp_card_time_laws.specs.Cards.{KeepsServing, ReportedBy, to_offer_before}
+use Rattle.osdp_card_time_laws.specs.Cards.{ReportedBy, to_offer_before}
+use Rattle.osdp_bus_order_laws.proofs.Flags.{AllFlagged}
+use Rattle.osdp_card_time_laws.specs.Beside.{calls_of}
+use Rattle.osdp_card_time_laws.specs.Between.{may_ask}
 use Rattle.osdp_card_time_laws.proofs.Among.{cards_among_orders}
-use Rattle.osdp_card_time_laws.proofs.Figures.{cards_by_figures, reported_later}
+use Rattle.osdp_card_time_laws.proofs.Between.{polls_come_between}
+use Rattle.osdp_card_time_laws.proofs.Figures.{reported_later}
 use Rattle.osdp_plan.specs.declared.bounds.Others.{Others}
 use Rattle.osdp_plan.specs.declared.bounds.Others.TheVariants.{Answer, OneSilent, Hostile}
-use Rattle.osdp_plan.specs.Plans.{IsPlan, config_of}
+use Rattle.osdp_plan.specs.Plans.{IsPlan}
 
 -- each reader has its exchange
 one_more : (n : ℕ) → 1 ≤ n → suc (n - 1) ≡ n
@@ -28,15 +32,6 @@ as_many OneSilent p plan = ap suc (length-replicate (p.readers - 1) _) ∙ one_m
 pub turns_are : (others : Others) (p : Plan) → IsPlan p → turns_of (planned_time others p) p.late p.readers ≡ turns_time p.late (exchanges others p.readers p)
 turns_are others p plan =
     let xs = exchanges others p.readers p in ap (turns_of (time_of xs) p.late) (sym (as_many others p plan)) ∙ (lines_add_up p.late xs).all
-
-pub orders_by_plan : (p : Plan) (b : BusState) → Well b → OrdersKeepToFigures p b
-orders_by_plan p b well others entry command calls planned off accepted keeps =
-    let xs = exchanges others p.readers p in
-    let wait : order_wait others p ≡ (p.orders + 1) * turns_time p.late xs =
-    ap (λ t. if t then order_between_time p.poll_interval p.late p.orders xs else line_order_time p.late p.orders xs) off in
-    subst (λ (t : ℕ). GoesOutBy (b.greatest + t) p.orders entry calls (after_call (Submit entry command) b))
-    (ap (λ t. (p.orders + 1) * t) (turns_are others p planned.plan) ∙ sym wait)
-    (orders_go_out b well p.late (planned_time others p) p.readers entry p.orders command calls accepted keeps)
 
 then_more : (a b c : ℕ) → a ≤ b → b ≤ c → a ≤ c
 then_more a b c less more = omega arith
@@ -69,26 +64,6 @@ rounds_by_plan p b well others entry calls planned under keeps =
     (ap (λ (i : ℕ). i + turns_of (planned_time others p) p.late p.readers) same ∙ ap (λ (t : ℕ). p.poll_interval + t) (turns_are others p planned.plan))
     (polls_go_out b well p.late (planned_time others p) p.readers entry 0 calls under keeps))
 
-none_more : (n : ℕ) → 0 + n ≡ n
-none_more n = omega arith
-
-pub later_cards_by_plan : (p : Plan) (b : BusState) → Well b → LaterCardsKeepToFigures p b
-later_cards_by_plan p b well others entry place orders event q steps off planned answers waits counted keeps =
-    let xs = exchanges others p.readers p in
-    let before : orders_before p ≡ p.orders = ap (λ t. if t then min p.orders 1 else p.orders) off in
-    let is : card_time (controller_config 0 b.config) p.late (to_offer_before place q + orders) (time_of xs entry) xs ≡ card_wait others p =
-    ap (λ c. card_time c p.late (to_offer_before place q + orders) (time_of xs entry) xs) planned.config
-    ∙ ap (λ n. card_time (config_of p) p.late n (time_of xs entry) xs) (counted ∙ sym before)
-    ∙ ap (λ a. card_time (config_of p) p.late (orders_before p) a xs) answers in
-    subst (λ (t : ℕ). ReportedBy (b.greatest + t) event place entry q steps b) is
-    (cards_by_figures b well p.late entry place orders xs event q steps waits
-    (subst (λ (n : ℕ). KeepsServing p.late (time_of xs) n entry orders q steps b) (sym (as_many others p planned.plan)) keeps))
-
-pub cards_by_plan : (p : Plan) (b : BusState) → Well b → CardsKeepToFigures p b
-cards_by_plan p b well others entry place event q steps off next keeps =
-    later_cards_by_plan p b well others entry place p.orders event q steps off next.planned next.answers next.queued
-    (ap (λ n. n + p.orders) next.first ∙ none_more p.orders) keeps
-
 -- arithmetic on counts and moments alone
 abbrev one_if : Bool → ℕ
 one_if may = if may then 1 else 0
@@ -103,15 +78,15 @@ with_late interval late turns = omega arith
 answer_after : (g rounds more answer : ℕ) → rounds ≤ more → g + (rounds + answer) ≤ g + (more + answer)
 answer_after g rounds more answer less = omega arith
 
-pub cards_between_by_plan : (p : Plan) (b : BusState) → Well b → CardsAmongOrdersKeepToFigures p b
-cards_between_by_plan p b well others entry place may event q steps on one next keeps =
+pub cards_by_plan : (p : Plan) (b : BusState) → Well b → AllFlagged b → CardsKeepToFigures p b
+cards_by_plan p b well flagged others entry place event q steps one next keeps serves =
+    let may = may_ask entry b in
+    let setting = ap (λ (c : ControllerConfig). c.poll_between_orders) next.planned.config in
     let xs = exchanges others p.readers p in
     let turns = turns_time p.late xs in
     let interval = b.config.poll_interval in
     let count = 2 * to_offer_before place q + one_if may + 1 in
-    let before : orders_before p ≡ min p.orders 1 = ap (λ t. if t then min p.orders 1 else p.orders) on in
-    let fewer : count ≤ orders_before p + 1 =
-    subst (λ (n : ℕ). count ≤ n + 1) (sym before) (as_planned may p.orders (to_offer_before place q) one next.first) in
+    let fewer : count ≤ orders_before p + 1 = as_planned may p.orders (to_offer_before place q) one next.first in
     let same : interval ≡ p.poll_interval = ap (λ (c : ControllerConfig). c.poll_interval) next.planned.config in
     let answer = answered_time p in
     let less : count * (interval + turns) ≤ (orders_before p + 1) * (p.poll_interval + p.late + turns) =
@@ -124,7 +99,8 @@ cards_between_by_plan p b well others entry place may event q steps on one next 
     (subst (λ (a : ℕ). ReportedBy (b.greatest + (count * (interval + turns) + a)) event place entry q steps b) next.answers
     (subst (λ (t : ℕ). ReportedBy (b.greatest + (count * (interval + t) + planned_time others p entry)) event place entry q steps b)
     (turns_are others p next.planned.plan)
-    (cards_among_orders b well p.late (planned_time others p) p.readers entry place may event q steps next.queued keeps)))
+    (cards_among_orders b well p.late (planned_time others p) p.readers entry place may event q steps next.queued
+    (record { turns = keeps; serves = serves; between = polls_come_between b well flagged setting entry (calls_of steps) }))))
 
 pub silence_by_plan : (p : Plan) (b : BusState) → Well b → SilenceKeepsToFigures p b
 silence_by_plan p b well others time entry calls planned turns idle keeps nothing =

@@ -8,8 +8,10 @@ use Rattle.osdp_frame.specs.declared.check_kind.CheckKind.TheVariants.{Sum}
 use Rattle.osdp_frame.specs.Packet.{Packet}
 use Rattle.osdp_frame.specs.Held.{decided}
 use Rattle.osdp_frame.specs.Items.{items, left_over}
+use Rattle.osdp_msg.specs.CommandTable.{command_at, command_fault, command_of}
 use Rattle.osdp_msg.specs.ReplyTable.{reply_at, reply_fault, reply_of}
 use Rattle.osdp_msg.specs.declared.command.Command.{Command}
+use Rattle.osdp_msg.specs.declared.command.Command.TheVariants.{Id}
 use Rattle.osdp_msg.specs.declared.event.Event.{Event}
 use Rattle.osdp_controller.specs.declared.report.LostCause.TheVariants.{NoReply}
 use Rattle.osdp_controller.specs.declared.report.Report.TheVariants as reports
@@ -18,27 +20,31 @@ use Rattle.osdp_bus.specs.declared.entry.Entry.{Entry}
 use Rattle.osdp_bus.specs.Buses.{device_of, has_report, holder}
 use Rattle.osdp_bus.specs.Deadlines.{acts}
 use Rattle.osdp_bus.specs.Entries.{address_of, is_entry_due}
-use Rattle.osdp_bus_laws.specs.Calls.{Add, Begin, Call, NextReport, OnBytes, OnSilence, Retarget, Tick, Withdraw, after_call}
+use Rattle.osdp_bus_laws.specs.Calls.{Add, Begin, Call, NextReport, OnBytes, OnSilence, Retarget, Submit, Tick, Withdraw, after_call}
 use Rattle.osdp_bus_laws.specs.Fairness.{Begins}
 use Rattle.osdp_bus_laws.proofs.Moments.{moments_are_seen}
 use Rattle.osdp_bus_time_laws.specs.Clock.{KeepsTime}
-use Rattle.osdp_bus_time_laws.specs.Instances.{ack_bytes, both_idle, both_open, order_calls, ordered, pd_id_bytes, short_line}
+use Rattle.osdp_bus_laws.proofs.Sound.{nobody}
+use Rattle.osdp_bus_laws.specs.Exchanges.{IsOutstandingAt}
+use Rattle.osdp_bus_order_laws.specs.Instances.{between_line, first_gone, ordered, with_it}
+use Rattle.osdp_bus_order_laws.proofs.SlowOrder.{between_config, order_is_reached}
+use Rattle.osdp_bus_time_laws.specs.Instances.{ack_bytes, pd_id_bytes}
 use Rattle.osdp_bus_time_laws.specs.Reading.{IsOfAnother, NothingIsRead, read_in}
 use Rattle.osdp_bus_time_laws.specs.Turns.{HasFew, OutstandingTakes, TurnsTake, others_of}
 use Rattle.osdp_time_laws.specs.Lines.{turns_time}
 use Rattle.osdp_bus_time_laws.proofs.Acting.{device_in, free_due, no_other, owed_from, reached_of}
-use Rattle.osdp_bus_time_laws.proofs.Instances.{short_config}
 use Rattle.osdp_bus_time_laws.proofs.Outstanding.{exchanges_end}
-use Rattle.osdp_bus_time_laws.proofs.SlowOrder.{order_is_reached}
 use Rattle.osdp_card_time_laws.specs.Beside.{Calls, Serves, asked_at, taken}
-use Rattle.osdp_card_time_laws.specs.Instances.{card, card_bytes, polled, with_card}
-use Rattle.osdp_card_time_laws.proofs.Instances.{card_is_reached}
+use Rattle.osdp_card_time_laws.specs.Instances.{card, with_card}
+use Rattle.osdp_card_time_laws.specs.SlowCard.{card_answer, order_answer, polled_between}
+use Rattle.osdp_card_time_laws.proofs.Common.{stands_after}
+use Rattle.osdp_card_time_laws.proofs.SlowCard.{card_between_is_reached}
 use Rattle.osdp_reader.specs.Queue.{Queue, queued}
 use Rattle.osdp_plan.specs.declared.bounds.Others.{Others}
 use Rattle.osdp_plan.specs.declared.bounds.Others.TheVariants.{Answer, OneSilent, Hostile}
 use Rattle.osdp_plan.specs.Figures.{exchanges, lost_wait, order_wait}
 use Rattle.osdp_plan.specs.Plans.{IsPlan}
-use Rattle.osdp_plan_laws.specs.Instances.{CardComesBeforeAnother, OrderFigureIsReached, SilenceFigureIsReached, at_last, card_steps, later, short_plan, silent_calls}
+use Rattle.osdp_plan_laws.specs.Instances.{CardComesBeforeAnother, OrderFigureIsReached, SilenceFigureIsReached, at_last, both_idle, card_steps, later, short_plan, silent_calls}
 
 is_plan : IsPlan short_plan
 is_plan = record {
@@ -59,14 +65,14 @@ is_plan = record {
 
 -- ---- an order
 
-order_moment : (others : Others) → (after_calls order_calls ordered).greatest ≡ both_open.greatest + order_wait others short_plan
-unfolding items left_over decided reply_of reply_fault reply_at
+order_moment : (others : Others) → (after_calls with_it ordered).greatest ≡ first_gone.greatest + order_wait others short_plan
+unfolding items left_over decided command_of command_fault command_at reply_of reply_fault reply_at
 order_moment Answer = order_is_reached.moment
 order_moment OneSilent = order_is_reached.moment
 order_moment Hostile = order_is_reached.moment
 
 pub order_figure_is_reached : OrderFigureIsReached
-unfolding items left_over decided reply_of reply_fault reply_at
+unfolding items left_over decided command_of command_fault command_at reply_of reply_fault reply_at
 order_figure_is_reached = record {
   planned = record { plan = is_plan; config = refl };
   accepted = order_is_reached.accepted;
@@ -208,18 +214,18 @@ turns : TurnsTake at_last silent_calls both_idle
 unfolding items left_over decided reply_of reply_fault reply_at
 turns =
     (exchanges_end both_idle
-    (always_well short_line
+    (always_well between_line
     (Add 0 ∷ Add 1 ∷ Begin 0 0 ∷ Begin 1 0 ∷ Tick 4 ∷ OnBytes (pd_id_bytes 128 168) 4 ∷ NextReport ∷ Tick 4 ∷ OnBytes (pd_id_bytes 129 167) 4 ∷ NextReport ∷ [])
-    short_config)).begun
+    between_config)).begun
     0 silent_calls in_time
 
 outstanding : OutstandingTakes at_last silent_calls both_idle
 unfolding items left_over decided reply_of reply_fault reply_at
 outstanding =
     (exchanges_end both_idle
-    (always_well short_line
+    (always_well between_line
     (Add 0 ∷ Add 1 ∷ Begin 0 0 ∷ Begin 1 0 ∷ Tick 4 ∷ OnBytes (pd_id_bytes 128 168) 4 ∷ NextReport ∷ Tick 4 ∷ OnBytes (pd_id_bytes 129 167) 4 ∷ NextReport ∷ [])
-    short_config)).outstanding
+    between_config)).outstanding
     0 silent_calls in_time
 
 -- ---- of the silent reader nothing is read
@@ -277,23 +283,61 @@ silence_figure_is_reached = record {
   moment = told_moment;
 }
 
--- ---- a card before another one
+-- ---- a card before another one, among orders
 
-abbrev answered : BusState
-answered = after_call (OnBytes (ack_bytes 128 229) 10) polled
+abbrev b0 : BusState
+b0 = polled_between
 
-abbrev polled_again : BusState
-polled_again = after_call (Tick 16) answered
+abbrev b1 : BusState
+b1 = after_call (OnBytes (ack_bytes 128 229) 10) b0
+
+abbrev b2 : BusState
+b2 = after_call (OnBytes [] 15) b1
+
+abbrev b3 : BusState
+b3 = after_call (Submit 0 (Id 0)) b2
+
+abbrev b4 : BusState
+b4 = after_call (Tick 16) b3
+
+abbrev b5 : BusState
+b5 = after_call (Submit 0 (Id 0)) b4
+
+abbrev b6 : BusState
+b6 = after_call (OnBytes order_answer 17) b5
+
+abbrev b7 : BusState
+b7 = after_call NextReport b6
+
+abbrev b8 : BusState
+b8 = after_call (Tick 18) b7
+
+abbrev b9 : BusState
+b9 = after_call (Tick 23) b8
 
 abbrev with_two : Queue
 with_two = queued later with_card
 
-no_tick : (bytes : List ℕ) (now k : ℕ) (b : BusState) → Begins (OnBytes bytes now) k b → ⊥
-no_tick bytes now k b begun = let is = begun.tick in cc
+no_bytes : (bytes : List ℕ) (now k : ℕ) (b : BusState) → Begins (OnBytes bytes now) k b → ⊥
+no_bytes bytes now k b begun = let is = begun.tick in cc
 
-asks_none : asked_at 0 polled_again ≡ None
-unfolding items left_over decided reply_of reply_fault reply_at
+no_order : (at : ℕ) (c : Command) (k : ℕ) (b : BusState) → Begins (Submit at c) k b → ⊥
+no_order at c k b begun = let is = begun.tick in cc
+
+no_report : (k : ℕ) (b : BusState) → Begins NextReport k b → ⊥
+no_report k b begun = let is = begun.tick in cc
+
+asks_order : asked_at 0 b4 ≡ Some (Id 0)
+unfolding items left_over decided reply_of reply_fault reply_at command_of command_fault command_at
+asks_order = refl
+
+asks_none : asked_at 0 b9 ≡ None
+unfolding items left_over decided reply_of reply_fault reply_at command_of command_fault command_at
 asks_none = refl
+
+rests_then : IsOutstandingAt 0 b8 → ⊥
+unfolding items left_over decided reply_of reply_fault reply_at command_of command_fault command_at
+rests_then out = nobody b8 refl 0 out.device out.there out.outstanding
 
 one_event : (event : Event) → Some card ≡ Some event → card ≡ event
 one_event event same = cc
@@ -301,32 +345,70 @@ one_event event same = cc
 not_offered : {A : Type 0} → false ≡ true → A
 not_offered h = no_other (sym h)
 
-serves_card : Serves 0 (taken None with_two) (Calls (OnBytes card_bytes 17) ∷ []) polled_again
+serves_card : Serves 0 (taken None with_two) (Calls (OnBytes card_answer 24) ∷ []) b9
 serves_card = (
   λ event out offered front.
-      (no_tick card_bytes 17 0 polled_again, λ ended. card_is_reached.reported ∙ ap (λ (e : Event). Some (0, reports.Event e)) (one_event event front)),
+      (no_bytes card_answer 24 0 b9, λ ended. card_between_is_reached.reported ∙ ap (λ (e : Event). Some (0, reports.Event e)) (one_event event front)),
   λ also. tt,
   λ never. tt,
 )
 
-serves_still : Serves 0 with_two (Calls (OnBytes card_bytes 17) ∷ []) polled_again
+serves_still : Serves 0 with_two (Calls (OnBytes card_answer 24) ∷ []) b9
 serves_still = (λ event out offered front. not_offered offered, λ also. tt, λ never. tt)
 
-serves : Serves 0 with_card card_steps polled
+serves_poll : Serves 0 with_two (Calls (Tick 23) ∷ Calls (OnBytes card_answer 24) ∷ []) b8
+serves_poll = (
+  λ event out offered front. not_offered offered,
+  λ begun. subst (λ (o : Option Command). Serves 0 (taken o with_two) (Calls (OnBytes card_answer 24) ∷ []) b9) (sym asks_none) serves_card,
+  λ never. serves_still,
+)
+
+serves_answered : Serves 0 with_two
+    (Calls (Submit 0 (Id 0)) ∷ Calls (OnBytes order_answer 17) ∷ Calls NextReport ∷ Calls (Tick 18) ∷ Calls (Tick 23) ∷ Calls (OnBytes card_answer 24) ∷ []) b4
+serves_answered = (
+  λ event out offered front. not_offered offered,
+  λ begun. absurd (no_order 0 (Id 0) 0 b4 begun),
+  λ no. (
+    λ event out offered front. not_offered offered,
+    λ begun. absurd (no_bytes order_answer 17 0 b5 begun),
+    λ not. (
+      λ event out offered front. not_offered offered,
+      λ begun. absurd (no_report 0 b6 begun),
+      λ none. (
+        λ event out offered front. not_offered offered,
+        λ begun. absurd (rests_then (stands_after (Tick 18) 0 b7 begun)),
+        λ never. serves_poll,
+      ),
+    ),
+  ),
+)
+
+serves : Serves 0 with_card card_steps b0
 serves = (
   λ event out offered front. not_offered offered,
-  λ begun. absurd (no_tick (ack_bytes 128 229) 10 0 polled begun),
+  λ begun. absurd (no_bytes (ack_bytes 128 229) 10 0 b0 begun),
   λ not. (
     λ event out offered front. not_offered offered,
-    λ begun. subst (λ (o : Option Command). Serves 0 (taken o with_two) (Calls (OnBytes card_bytes 17) ∷ []) polled_again) (sym asks_none) serves_card,
-    λ never. serves_still,
+    λ begun. absurd (no_bytes [] 15 0 b1 begun),
+    λ none. (
+      λ event out offered front. not_offered offered,
+      λ begun. absurd (no_order 0 (Id 0) 0 b2 begun),
+      λ no. (
+        λ event out offered front. not_offered offered,
+        λ begun.
+            subst (λ (o : Option Command). Serves 0 (taken o with_two)
+            (Calls (Submit 0 (Id 0)) ∷ Calls (OnBytes order_answer 17) ∷ Calls NextReport ∷ Calls (Tick 18) ∷ Calls (Tick 23) ∷ Calls (OnBytes card_answer 24) ∷ []) b4)
+            (sym asks_order) serves_answered,
+        λ never. serves_answered,
+      ),
+    ),
   ),
 )
 
 pub card_before_another : CardComesBeforeAnother
 card_before_another = record {
-  config = short_config;
-  queued = card_is_reached.queued;
-  serving = record { turns = card_is_reached.serving.turns; serves = serves; counted = card_is_reached.serving.counted };
-  reported = card_is_reached.reported;
+  config = between_config;
+  queued = card_between_is_reached.queued;
+  serving = record { setting = card_between_is_reached.serving.setting; turns = card_between_is_reached.serving.turns; serves = serves };
+  reported = card_between_is_reached.reported;
 }

@@ -1,6 +1,7 @@
 pub mod Common
 pub mod Figures
-mod Between
+mod Orders
 pub mod Instances
 pub mod Passed
-pub mod PassedBetween
+pub mod PassedOrders
+mod Hostile

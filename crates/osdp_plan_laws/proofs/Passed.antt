@@ -15,7 +15,7 @@ use Rattle.osdp_bus_time_laws.specs.Telling.{ToldBy}
 use Rattle.osdp_card_time_laws.specs.Beside.{Calls, Queues, Step, asked_at, calls_of, taken}
 use Rattle.osdp_card_time_laws.specs.Cards.{ReportedBy, to_offer_before}
 use Rattle.osdp_reader.specs.Queue.{Queue, queued}
-use Rattle.osdp_plan_laws.specs.Passed.{BeginAtMost, CardsWaitWithin, GoesOn, OrdersWaitWithin, ReportNot, SilenceLastsWithin, StandingIsUnderWay, TellNoLoss}
+use Rattle.osdp_plan_laws.specs.Passed.{BeginAtMost, CardsWaitWithin, GoesOn, ReportNot, SilenceLastsWithin, StandingIsUnderWay, TellNoLoss, TurnsWaitWithin}
 
 standing : (state : State) → is_closed state ≡ false → is_quiet state ≡ false → is_under_way state ≡ true
 standing Closed stands loud = cc
@@ -36,19 +36,19 @@ either_case n limit where_so where_not = by_test (nat_le n limit) refl
     by_test true is = leb-true n limit is
     by_test false is = let past = leb-false n limit is in absurd (let within = where_not (λ so. let also = where_so so in omega (arith, past, also)) in omega (arith, past, within))
 
-orders_within : (limit before entry : ℕ) (calls : List Call) (b : BusState) → GoesOutBy limit before entry calls b → GoesOn entry calls b
+turns_within : (limit before entry : ℕ) (calls : List Call) (b : BusState) → GoesOutBy limit before entry calls b → GoesOn entry calls b
     → BeginAtMost before entry calls b → b.greatest ≤ limit → (after_calls calls b).greatest ≤ limit
-orders_within limit before entry [] b goes on few within = within
-orders_within limit zero entry (call ∷ calls) b goes on few within =
-    let now = goes on.0 in orders_within limit zero entry calls (after_call call b) (now.1 few.0) on.1 few.1 now.0
-orders_within limit (suc before) entry (call ∷ calls) b goes on few within =
+turns_within limit before entry [] b goes on few within = within
+turns_within limit zero entry (call ∷ calls) b goes on few within =
+    let now = goes on.0 in turns_within limit zero entry calls (after_call call b) (now.1 few.0) on.1 few.1 now.0
+turns_within limit (suc before) entry (call ∷ calls) b goes on few within =
     let now = goes on.0 in
     either_case (after_calls calls (after_call call b)).greatest limit
-    (λ begun. orders_within limit before entry calls (after_call call b) (now.1 begun) on.1 (few.0 begun) now.0)
-    (λ none. orders_within limit (suc before) entry calls (after_call call b) (now.2 none) on.1 (few.1 none) now.0)
+    (λ begun. turns_within limit before entry calls (after_call call b) (now.1 begun) on.1 (few.0 begun) now.0)
+    (λ none. turns_within limit (suc before) entry calls (after_call call b) (now.2 none) on.1 (few.1 none) now.0)
 
-pub orders_wait_within : (b : BusState) → OrdersWaitWithin b
-orders_wait_within b limit before entry calls goes on few within = orders_within limit before entry calls b goes on few within
+pub turns_wait_within : (b : BusState) → TurnsWaitWithin b
+turns_wait_within b limit before entry calls goes on few within = turns_within limit before entry calls b goes on few within
 
 silence_within : (limit entry : ℕ) (calls : List Call) (b : BusState) → ToldBy limit entry calls b → TellNoLoss entry calls b → b.greatest ≤ limit
     → (after_calls calls b).greatest ≤ limit

@@ -1,17 +1,18 @@
 -- What the figures of a plan say of a line that is as it was planned.
-use Rattle.std.specs.Prelude.{◌≡◌, ℕ, ◌+◌, ◌-◌, ◌≤◌, Bool, true, false, List}
+use Rattle.std.specs.Prelude.{◌≡◌, ℕ, ◌+◌, ◌-◌, ◌≤◌, true, List}
 use Rattle.osdp_msg.specs.declared.command.Command.{Command}
 use Rattle.osdp_msg.specs.declared.event.Event.{Event}
 use Rattle.osdp_bus.specs.Buses.{BusState}
 use Rattle.osdp_bus.specs.Settings.{controller_config}
 use Rattle.osdp_bus_laws.specs.Calls.{Call, Submit, after_call}
-use Rattle.osdp_bus_time_laws.specs.Laws.{GoesOutBy, IsAccepted, IsUnderWay, time_of}
+use Rattle.osdp_bus_order_laws.specs.InTime.{OrderGoesOutBy}
+use Rattle.osdp_bus_time_laws.specs.Laws.{GoesOutBy, IsAccepted, IsUnderWay, TakesNoneBack, time_of}
 use Rattle.osdp_bus_time_laws.specs.Reading.{NothingIsRead}
 use Rattle.osdp_bus_time_laws.specs.Telling.{IsIdle, ToldBy}
 use Rattle.osdp_bus_time_laws.specs.Turns.{KeepsTurns, others_of}
-use Rattle.osdp_card_time_laws.specs.Among.{KeepsBetween}
-use Rattle.osdp_card_time_laws.specs.Beside.{Step}
-use Rattle.osdp_card_time_laws.specs.Cards.{IsQueued, KeepsServing, ReportedBy, to_offer_before}
+use Rattle.osdp_card_time_laws.specs.Beside.{Serves, Step, calls_of}
+use Rattle.osdp_card_time_laws.specs.Between.{may_ask}
+use Rattle.osdp_card_time_laws.specs.Cards.{IsQueued, ReportedBy, to_offer_before}
 use Rattle.osdp_reader.specs.Queue.{Queue}
 use Rattle.osdp_time_laws.specs.Lines.{turns_time}
 use Rattle.osdp_plan.specs.declared.bounds.Others.{Others}
@@ -23,16 +24,17 @@ use Rattle.osdp_plan.specs.Plans.{IsPlan, config_of}
 abbrev pub planned_time : Others → Plan → ℕ → ℕ
 planned_time others p = time_of (exchanges others p.readers p)
 
--- a plan in its ranges, and a bus with its settings
+-- a plan in its ranges, and a bus with its settings, which are those of a panel: a POLL stands between any two orders of an entry
 pub record IsAsPlanned (p : Plan) (b : BusState) : Type 0 where
   pub plan : IsPlan p
   pub config : controller_config 0 b.config ≡ config_of p
 
--- an order, where no POLL comes between two: as many as were planned wait before it
+-- an order: as many as were planned wait before it, and none of its reader is taken back
 abbrev pub OrdersKeepToFigures : Plan → BusState → Type 0
-OrdersKeepToFigures p b = (others : Others) (entry : ℕ) (command : Command) (calls : List Call) → IsAsPlanned p b → p.between ≡ false
+OrdersKeepToFigures p b = (others : Others) (entry : ℕ) (command : Command) (calls : List Call) → IsAsPlanned p b
     → IsAccepted entry p.orders command b → KeepsTurns p.late (planned_time others p) p.readers calls (after_call (Submit entry command) b)
-    → GoesOutBy (b.greatest + order_wait others p) p.orders entry calls (after_call (Submit entry command) b)
+    → TakesNoneBack entry calls (after_call (Submit entry command) b)
+    → OrderGoesOutBy (b.greatest + order_wait others p) entry command p.orders calls (after_call (Submit entry command) b)
 
 -- a reader is asked again, by a POLL where no order waits: the next frame of its exchanges goes out within a round of POLLs, or its session has ended
 abbrev pub RoundsKeepToFigures : Plan → BusState → Type 0
@@ -46,23 +48,11 @@ pub record IsNextCard (others : Others) (p : Plan) (event : Event) (place entry 
   pub queued : IsQueued event place entry q b
   pub first : to_offer_before place q ≡ 0
 
--- .. no POLL has to come between two orders, and as many as were planned wait or are accepted
+-- .. however many orders are given meanwhile. Where no order waits for its answer one may be asked before the card, so at least one was planned
 abbrev pub CardsKeepToFigures : Plan → BusState → Type 0
-CardsKeepToFigures p b = (others : Others) (entry place : ℕ) (event : Event) (q : Queue) (steps : List Step) → p.between ≡ false
-    → IsNextCard others p event place entry q b → KeepsServing p.late (planned_time others p) p.readers entry p.orders q steps b
-    → ReportedBy (b.greatest + card_wait others p) event place entry q steps b
-
--- .. where other cards are still to be offered before it, each of them counts as an order does
-abbrev pub LaterCardsKeepToFigures : Plan → BusState → Type 0
-LaterCardsKeepToFigures p b = (others : Others) (entry place orders : ℕ) (event : Event) (q : Queue) (steps : List Step) → p.between ≡ false
-    → IsAsPlanned p b → planned_time others p entry ≡ answered_time p → IsQueued event place entry q b → to_offer_before place q + orders ≡ p.orders
-    → KeepsServing p.late (planned_time others p) p.readers entry orders q steps b → ReportedBy (b.greatest + card_wait others p) event place entry q steps b
-
--- .. a POLL comes between two, and an order may be asked before the card only where one was planned
-abbrev pub CardsAmongOrdersKeepToFigures : Plan → BusState → Type 0
-CardsAmongOrdersKeepToFigures p b = (others : Others) (entry place : ℕ) (may : Bool) (event : Event) (q : Queue) (steps : List Step) → p.between ≡ true
-    → (may ≡ true → 1 ≤ p.orders) → IsNextCard others p event place entry q b → KeepsBetween p.late (planned_time others p) p.readers entry may q steps b
-    → ReportedBy (b.greatest + card_wait others p) event place entry q steps b
+CardsKeepToFigures p b = (others : Others) (entry place : ℕ) (event : Event) (q : Queue) (steps : List Step)
+    → (may_ask entry b ≡ true → 1 ≤ p.orders) → IsNextCard others p event place entry q b
+    → KeepsTurns p.late (planned_time others p) p.readers (calls_of steps) b → Serves entry q steps b → ReportedBy (b.greatest + card_wait others p) event place entry q steps b
 
 -- a reader of which nothing is read any more, where the turns of the others take as long as was planned
 abbrev pub SilenceKeepsToFigures : Plan → BusState → Type 0

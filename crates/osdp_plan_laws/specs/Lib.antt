@@ -1,5 +1,5 @@
 pub mod Figures
-pub mod Between
 pub mod Instances
 pub mod Passed
-pub mod PassedBetween
+pub mod PassedOrders
+pub mod Hostile

@@ -32,9 +32,9 @@ BeginAtMost (suc count) entry (call ∷ calls) b =
     (Begins call entry b → BeginAtMost count entry calls (after_call call b))
     × ((Begins call entry b → ⊥) → BeginAtMost (suc count) entry calls (after_call call b))
 
--- an order with so many before it hasn't had its turn
-abbrev pub OrdersWaitWithin : BusState → Type 0
-OrdersWaitWithin b = (limit before entry : ℕ) (calls : List Call) → GoesOutBy limit before entry calls b → GoesOn entry calls b → BeginAtMost before entry calls b
+-- an exchange with so many before it hasn't had its turn
+abbrev pub TurnsWaitWithin : BusState → Type 0
+TurnsWaitWithin b = (limit before entry : ℕ) (calls : List Call) → GoesOutBy limit before entry calls b → GoesOn entry calls b → BeginAtMost before entry calls b
     → b.greatest ≤ limit → (after_calls calls b).greatest ≤ limit
 
 -- no report that the entry is lost is taken in the calls

@@ -7,7 +7,7 @@ use Rattle.osdp_msg.specs.CommandTable.{command_at, command_fault, command_of}
 use Rattle.osdp_msg.specs.Limits.{AreRoom}
 use Rattle.osdp_msg.specs.ReplyFields.{CapabilityFits, KeypadFits, PdIdFits}
 use Rattle.osdp_msg.specs.ReplyTable.{ReplyFits, reply_at, reply_fault, reply_of}
-use Rattle.osdp_bus.specs.Settings.{IsBusConfig}
+use Rattle.osdp_bus.specs.Settings.{IsBusConfig, default_config}
 use Rattle.osdp_bus.proofs.Defaults.{bus_in_range}
 use Rattle.osdp_reader_laws.specs.Storing.{StoresItsOwn}
 use Rattle.osdp_premises.proofs.Exactly.{fair_keep}
@@ -15,7 +15,18 @@ use Rattle.osdp_premises.proofs.Leaving.{leaving_exact}
 use Rattle.osdp_premises.proofs.SettingUp.{MayStand, set_up_of}
 
 pub twice_fits : IsBusConfig twice
-twice_fits = bus_in_range Sum four 2 ((omega arith, omega arith), omega arith, omega arith) (omega arith, omega arith)
+twice_fits =
+    let h : IsBusConfig (record (default_config Sum four) { sends = 2 }) = bus_in_range Sum four 2 ((omega arith, omega arith), omega arith, omega arith) (omega arith, omega arith) in
+    let k = h.controllers.config_in_range in
+    record {
+      controllers = record {
+        config_in_range = record { address = k.address; reply_wait = k.reply_wait; poll_interval = k.poll_interval; busy_wait = k.busy_wait; quiet_wait = k.quiet_wait; sends = k.sends; busy_limit = k.busy_limit };
+        room = h.controllers.room;
+        limit = h.controllers.limit;
+        bytes = h.controllers.bytes;
+      };
+      gap = h.gap;
+    }
 
 pub room_fits : AreRoom four.messages four.bytes
 room_fits = ((omega arith, omega arith), omega arith, omega arith)

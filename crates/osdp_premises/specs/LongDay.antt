@@ -40,9 +40,9 @@ use Rattle.osdp_calls.specs.Told.{all_taken, all_told, reports_of}
 abbrev pub four : Room
 four = record { messages = 4; bytes = 5732 }
 
--- a bus whose controllers send each packet twice
+-- a bus whose controllers send each packet twice, and let a POLL stand between any two orders, as in every panel
 abbrev pub twice : BusConfig
-twice = record (default_config Sum four) { sends = 2 }
+twice = record (default_config Sum four) { sends = 2; poll_between_orders = true }
 
 -- the settings of a device at this address
 abbrev pub device_at : ℕ → ReaderConfig

@@ -64,7 +64,7 @@ day_in_c = flat_map in_c day
 -- a panel whose second entry is a device of another make, and two devices
 abbrev pub programs : Programs c_panel c_device
 programs = record {
-  panel = panel_made false twice minute (3 ∷ 20 ∷ 4 ∷ []);
+  panel = panel_made twice minute (3 ∷ 20 ∷ 4 ∷ []);
   devices = device_at 3 ∷ device_at 4 ∷ [];
 }
 

@@ -33,7 +33,7 @@ minute = 60000
 -- a panel whose third entry is a device of another make, and two devices
 abbrev pub programs : Programs c_panel c_device
 programs = record {
-  panel = panel_made false twice minute (3 ∷ 4 ∷ 20 ∷ []);
+  panel = panel_made twice minute (3 ∷ 4 ∷ 20 ∷ []);
   devices = device_at 3 ∷ device_at 4 ∷ [];
 }
 
@@ -52,7 +52,7 @@ in_c (Orders entry command) = panel (SubmitText entry (Some command)) [] ∷ []
 in_c (TakesBack entry) = panel (Withdraw entry) [] ∷ []
 in_c (Sends now) = panel (PanelTick now) [] ∷ panel NextReport [] ∷ []
 in_c (Hears bytes now places) = panel (Bytes bytes now) places ∷ panel NextReport [] ∷ []
-in_c (IsMadeAnew addresses) = panel (PanelAnew false twice minute addresses) [] ∷ []
+in_c (IsMadeAnew addresses) = panel (PanelAnew twice minute addresses) [] ∷ []
 in_c (GetsOneMore address) = panel (Adds address) [] ∷ []
 in_c (HasOutput k) = device k (SetStates Outputs (0 ∷ [])) [] ∷ []
 in_c (DeviceHears k bytes now places) = device k (TakesBytes bytes now) places ∷ []

@@ -14,7 +14,8 @@ use osdp_device::{DeviceStatus, ProgramAnswers};
 use osdp_reader::Handler;
 
 /// Whatever programs in C call, each entry of the panel keeps the ledger's promises, where these calls keep the premises. Losses of power are among the
-/// calls, and the premises are those of the calls of a line in use that these are. Of each entry, with the device that its program has: each accepted
+/// calls, and the premises are those of the calls of a line in use that these are: so no entry is added to a panel in use. A panel that is made anew lets a POLL
+/// stand between any two commands of an entry, as each that these calls make; one that waits for it is accepted. Of each entry, with the device that its program has: each accepted
 /// command is settled once with its answer, is told in doubt once, is given back, is lost with its panel's power, or is ahead. None is taken twice, and
 /// what is settled was taken, with that answer. Each accepted event has left the device's queue once, or waits. Events are reported in their order, in each
 /// session once, and at most the last of a session is told again later. None is skipped but by its device's program, or by a loss of the device's power.

@@ -16,3 +16,4 @@ pub mod QueuedOnce
 pub mod Withdrawing
 pub mod Places
 pub mod Replies
+pub mod Adding

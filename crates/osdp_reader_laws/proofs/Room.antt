@@ -4,7 +4,7 @@ use Rattle.osdp_reader_laws.proofs.Outcomes.{IsKeptByEffects}
 
 -- ---- bytes of some of the events
 
-bytes_append : (xs ys : List Event) → bytes_waiting (xs ++ ys) ≡ bytes_waiting xs + bytes_waiting ys
+pub bytes_append : (xs ys : List Event) → bytes_waiting (xs ++ ys) ≡ bytes_waiting xs + bytes_waiting ys
 bytes_append [] ys = omega arith
 bytes_append (x ∷ xs) ys = let rest = bytes_append xs ys in omega (arith, rest)
 

@@ -6,3 +6,4 @@ pub mod Storing
 pub mod Withdrawing
 pub mod Places
 pub mod Replying
+pub mod Adding

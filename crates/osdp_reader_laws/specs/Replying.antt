@@ -1,5 +1,5 @@
 -- The reply to each command that is acted on, and which of them the handler is asked about: once, and about no other.
-use Rattle.std.specs.Prelude.{◌≡◌, ◌≤◌, ◌<◌, ◌∷◌, ◌++◌, ℕ, Bool, []}
+use Rattle.std.specs.Prelude.{◌≡◌, ◌≤◌, ◌<◌, ◌∷◌, ℕ, []}
 use Rattle.osdp_msg.specs.declared.command.Command.{Command}
 use Rattle.osdp_msg.specs.declared.command.Command.TheVariants.{Poll, Id, Cap, LocalStatus, InputStatus, OutputStatus, ReaderStatus, Output, Led, Buzzer, Text, Comset, Maker}
 use Rattle.osdp_msg.specs.declared.command_fields.Communication.{Communication}
@@ -13,10 +13,8 @@ use Rattle.osdp_reader.specs.declared.config.ReaderConfig.{ReaderConfig}
 use Rattle.osdp_reader.specs.declared.handler.Answer.{Answer}
 use Rattle.osdp_reader.specs.declared.handler.Answer.TheVariants as answer
 use Rattle.osdp_reader.specs.Replies.{refused, unread_reason}
-use Rattle.osdp_reader.specs.State.{ReaderState, after_set_busy, after_submit}
 use Rattle.osdp_reader.specs.Table.{answer_to}
 use Rattle.osdp_reader_laws.specs.Laws.{nak_body}
-use Rattle.osdp_msg.specs.declared.event.Event.{Event}
 
 -- a NAK with this number, and nothing after it
 abbrev pub Refuses : ℕ → Reply → Type 0
@@ -56,15 +54,6 @@ IsToldAs OutputStatus (answer.List states) said = said ≡ reply.Outputs states
 IsToldAs ReaderStatus (answer.List states) said = said ≡ reply.Readers states
 IsToldAs _ (answer.Refuse reason) said = RefusesFor reason said
 IsToldAs _ _ said = Refuses 9 said
-
--- an event goes after those that wait, and nothing else changes
-abbrev pub SubmitsLast : Type 0 → Type 0
-SubmitsLast H = (r : ReaderState H) (event : Event)
-    → after_submit event r ≡ record r { queue = record r.queue { events = r.queue.events ++ event ∷ [] } }
-
--- a reader is busy from then on, or isn't, and nothing else changes
-abbrev pub SetsBusyAlone : Type 0 → Type 0
-SetsBusyAlone H = (r : ReaderState H) (busy : Bool) → after_set_busy busy r ≡ record r { busy = busy }
 
 module _ {H : Type 0} (answer_of : H → Command → Answer) (after : H → Command → H) where
   -- by what the reader is, and its handler stays: POLL where no event is told, ID, CAP, and COMSET with its own values, or NAK 9 where its address is

@@ -3,9 +3,10 @@
 #![tactic(auto)]
 
 ghost use Rattle.osdp_reader.specs.declared.config.ReaderConfig.{ReaderConfig};
+ghost use Rattle.osdp_reader_laws.specs.Adding.{AddsBetweenPackets};
 ghost use Rattle.osdp_reader_laws.specs.Laws.{ActsAtZero, ActsOnce, AnswersByWhatCame, AnswersInOrder, AnswersPlainly, AnswersTaken, AnswersTheSameAgain, AnswersTheSameStill, AnswersWhereverItIs, ChangesAnswersAlone, ForgetsWhereItMoves, HasOneSpelling, HasRoom, HearsItsAddress, IsKept, KeepsReply, KeepsWhatItTook, LosesNoEvent, RefusesBlocks, RefusesNumbers, RepeatsItsReply, RepliesToItsCommand, SaysBusy, SendsWhatItSays, StaysADevice, TakesNext, TellsItsOffer};
 ghost use Rattle.osdp_reader_laws.specs.Places.{RefusesForItsPlace};
-ghost use Rattle.osdp_reader_laws.specs.Replying.{AnswersByItself, AsksItsHandlerOnce, RefusesByCause, SetsBusyAlone, SubmitsLast};
+ghost use Rattle.osdp_reader_laws.specs.Replying.{AnswersByItself, AsksItsHandlerOnce, RefusesByCause};
 ghost use Rattle.osdp_reader_laws.specs.Storing.{StoresItsOwn};
 ghost use Rattle.osdp_reader_laws.specs.Withdrawing.{DoubtsWhatItTold, KnowsItsOffer, NeverTellsWhatIsTakenBack, TellsNoMoreWhatLapsed, ToldWhatIsInDoubt, WithdrawsOne};
 ghost use Rattle.osdp_reader_laws.specs.Steps.{AnswersPolls, AnswersWhatFits, BeginsAnew, ChangesByActing, KeepsItsSettings, LetsItsOfferGo, MovesByComsetAlone, OffersToPollsAlone, RefusesUnread, SaysWhatFits, TellsItsCommand, TellsItsComset};
@@ -27,12 +28,16 @@ pub fn keeps_what_it_took<H: Handler>()
 {}
 
 /// A handler that the device sets answers from the next packet on, and nothing else changes. A number that comes again has the answer
-/// that was given. An event that is submitted goes after those that wait, and a reader is busy or not as it is set: nothing else changes by either.
+/// that was given.
 pub fn changes_answers_alone<H: Handler>()
     ensures alone { ChangesAnswersAlone H.answer_of H.after }
     ensures again { AnswersTheSameStill H.answer_of H.after }
-    ensures event { SubmitsLast H }
-    ensures busy { SetsBusyAlone H }
+{}
+
+/// However many events are submitted between packets, and however often BUSY is set: those events for which there was room wait in their order, after those that
+/// waited. It is busy as it was set last, and all else is as before.
+pub fn adds_between_packets<H: Handler>()
+    ensures { AddsBetweenPackets H.answer_of H.after }
 {}
 
 /// Bytes that spell the same packet are the same, so a repeated reply is the stored one byte for byte.

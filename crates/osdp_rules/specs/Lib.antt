@@ -6,3 +6,5 @@ pub mod Claims
 pub mod Claiming
 pub mod Delays
 pub mod Verdicts
+pub mod Showing
+pub mod Runs

@@ -12,16 +12,15 @@ mod judging;
 mod known;
 mod laws;
 mod packets;
+mod showing;
 mod verdict;
 
 pub use aspect::Aspect;
-pub use claiming::claim_judged;
 pub use claims::Claims;
 pub use delays::Delays;
 pub use finding::Finding;
-pub use findings::prompt_finding;
-pub use judging::{count_judged, judged, noise_judged};
 pub use known::{Known, Turn};
 pub use laws::compares_packets;
 pub use packets::{has_reason, is_busy, same_check, same_packet, takes_nothing};
+pub use showing::{Heard, shown};
 pub use verdict::Verdict;

@@ -1,6 +1,6 @@
 -- Exchange after exchange with a reader of ours: no rule is broken.
-use Rattle.osdp_rules_laws.proofs.Common.{◌≡◌, ℕ, List, [], ◌∷◌, None, refl, subst, ◌∙◌, IfSome, Packet, ReplyFits, Command, Answer, ReaderState, hears, kind_of, judged, sent_judged, after_sent, known_after, Aspect, Known, Gone, Unknown, Opened, Took, BreaksNoRule, AnswerIsLost, Comes, Exchange, Follows, IsStill, PacketIsLost, Way, findings, heard_by, heard_in, reader_after, reader_by}
-use Rattle.osdp_rules_laws.proofs.Fine.{AreFine, IsFine, never_broken}
+use Rattle.osdp_rules_laws.proofs.Common.{◌≡◌, ℕ, None, refl, subst, ◌∙◌, IfSome, Packet, ReplyFits, Command, Answer, ReaderState, hears, kind_of, judged, sent_judged, after_sent, known_after, Aspect, Known, Gone, Unknown, Opened, Took, AnswerIsLost, Comes, Exchange, IsStill, PacketIsLost, Way, heard_by, heard_in, reader_after, reader_by}
+use Rattle.osdp_rules_laws.proofs.Fine.{IsFine}
 use Rattle.osdp_rules_laws.proofs.Meeting.{met}
 use Rattle.osdp_rules_laws.proofs.Reading.{ReadsReplies}
 use Rattle.osdp_rules_laws.proofs.Steps.{Knows, heard_knows, lost_knows, sent_fine, silent_fine, still_knows}
@@ -42,7 +42,7 @@ module _ {H : Type 0} where
         subst (λ (a : ℕ). Knows a (after_sent a x.packet (heard_in answer_of after x) k) (reader_after answer_of after x)) same
         (own_known k x.reader x.packet x.way knows)
 
-    one_fine : (aspect : Aspect) (address : ℕ) (k : Known) (x : Exchange H) → Knows address k x.reader
+    pub one_fine : (aspect : Aspect) (address : ℕ) (k : Known) (x : Exchange H) → Knows address k x.reader
         → IfSome (hears answer_of after x.reader x.packet).said ReplyFits
         → IsFine (judged aspect address k x.packet (heard_in answer_of after x))
     one_fine aspect address Gone x knows fits = tt
@@ -56,17 +56,3 @@ module _ {H : Type 0} where
     one_known address Unknown x knows = known_at address Unknown x knows refl
     one_known address Opened x knows = known_at address Opened x knows.0 (refl, knows.1)
     one_known address (Took p a) x knows = known_at address (Took p a) x knows.0 (refl, knows.1, knows.2)
-
-    all_fine : (aspect : Aspect) (address : ℕ) (k : Known) (r : ReaderState H) (xs : List (Exchange H)) → Knows address k r
-        → Follows answer_of after r xs → AreFine (findings answer_of after aspect address k xs)
-    all_fine aspect address k r [] knows follows = tt
-    all_fine aspect address k r (x ∷ xs) knows follows =
-        let here = knows_still address k r x.reader knows follows.0 in (
-          one_fine aspect address k x here follows.1,
-          all_fine aspect address (known_after address x.packet (heard_in answer_of after x) k) (reader_after answer_of after x) xs
-              (one_known address k x here) follows.2,
-        )
-
-    pub breaks_no_rule : BreaksNoRule answer_of after
-    breaks_no_rule aspect r xs follows =
-        never_broken (findings answer_of after aspect r.config.address Unknown xs) (all_fine aspect r.config.address Unknown r xs refl follows)

@@ -1,5 +1,5 @@
 -- A reader of ours whose handler does what its CAP says breaks no rule about CAP.
-use Rattle.osdp_rules_laws.proofs.Common.{◌≡◌, ◌≢◌, ℕ, Bool, true, false, cond, eqb, not, ◌&&◌, nat_lt, List, [], ◌∷◌, length, Option, Some, None, Result, Ok, Err, refl, sym, subst, inl, inr, ap, ◌∙◌, cond_both, eq-eqb, eqb-true, false≢true, IfSome, Packet, ReplyFits, Command, Event, MsgFault, NakReason, CommandLength, RecordNotProcessed, SecurityBlock, UnexpectedSequence, UnknownCommand, Reply, ReaderConfig, Answer, Kind, Silent, Secured, Zero, Repeat, Taken, Busy, Wrong, event_for, released, refusal_reply, refused, reply_for, reply_packet, unread_reason, ReaderState, answer_to, begun, event_or_answer, hears, kind_of, outcome, taken, known_after, last_number, turn_of, asked, is_to, takes_nothing, told, Aspect, Nothing, Kept, Either, Broken, Known, Gone, Unknown, Opened, Took, AnswerIsLost, Comes, Exchange, Follows, PacketIsLost, Way, heard_by, heard_in, reader_after}
+use Rattle.osdp_rules_laws.proofs.Common.{◌≡◌, ◌≢◌, ℕ, Bool, true, false, cond, eqb, not, ◌&&◌, nat_lt, List, [], length, Option, Some, None, Result, Ok, Err, refl, sym, subst, inl, inr, ap, ◌∙◌, cond_both, eq-eqb, eqb-true, false≢true, IfSome, Packet, ReplyFits, Command, Event, MsgFault, NakReason, CommandLength, RecordNotProcessed, SecurityBlock, UnexpectedSequence, UnknownCommand, Reply, ReaderConfig, Answer, Kind, Silent, Secured, Zero, Repeat, Taken, Busy, Wrong, event_for, released, refusal_reply, refused, reply_for, reply_packet, unread_reason, ReaderState, answer_to, begun, event_or_answer, hears, kind_of, outcome, taken, last_number, turn_of, asked, is_to, takes_nothing, told, Aspect, Nothing, Kept, Either, Broken, Known, Gone, Unknown, Opened, Took, AnswerIsLost, Comes, PacketIsLost, Way, heard_by}
 use Rattle.osdp_msg.specs.Values.{NakValue}
 use Rattle.osdp_msg.specs.declared.capability.Capability.{Capability}
 use Rattle.osdp_msg.specs.declared.command.Command.TheVariants as command
@@ -11,9 +11,8 @@ use Rattle.osdp_rules.specs.Claiming.{agrees, are_leds, are_outputs, claim_findi
 use Rattle.osdp_rules.specs.Claims.{claims_after, claims_by, claims_of, claims_told, is_anew, is_new, no_claims}
 use Rattle.osdp_rules.specs.declared.aspect.Aspect.TheVariants as rule
 use Rattle.osdp_rules.specs.declared.claims.Claims.{Claims}
-use Rattle.osdp_rules_laws.specs.Claims.{BreaksNoClaim, KeepsClaims, ReadersAreOpen, RefusalIsNoLie, SaysStill, claim_findings}
-use Rattle.osdp_rules_laws.proofs.Along.{knows_still, one_known}
-use Rattle.osdp_rules_laws.proofs.Fine.{AreFine, IsFine, fine_both, fine_kept, fine_unbroken, never_broken}
+use Rattle.osdp_rules_laws.specs.Claims.{KeepsClaims, ReadersAreOpen, RefusalIsNoLie}
+use Rattle.osdp_rules_laws.proofs.Fine.{IsFine, fine_both, fine_kept, fine_unbroken}
 use Rattle.osdp_rules_laws.proofs.Meeting.{Met, MetNumber, again_last, met, unknown_above}
 use Rattle.osdp_rules_laws.proofs.Reading.{ReadsReplies}
 use Rattle.osdp_rules_laws.proofs.Steps.{Knows, knows_last}
@@ -262,7 +261,7 @@ module _ {H : Type 0} (answer_of : H → Command → Answer) (after : H → Comm
           absurd (false≢true (sym (not_anew address k p (never_repeated address k r p knows met.number)) ∙ anew))
 
   module _ (caps : List Capability) (truth : KeepsClaims answer_of (claims_of caps)) where
-    by_way : (claims : Claims) (keeps : KeepsClaims answer_of claims) (address : ℕ) (k : Known) (r : ReaderState H) (p : Packet) (way : Way)
+    pub by_way : (claims : Claims) (keeps : KeepsClaims answer_of claims) (address : ℕ) (k : Known) (r : ReaderState H) (p : Packet) (way : Way)
         → Knows address k r → is_anew address k p ≡ true → r.config.caps.items ≡ caps → IfSome (hears answer_of after r p).said ReplyFits
         → Says claims keeps (asked p) (heard_by way (hears answer_of after r p).reply)
     by_way claims keeps address k r p Comes knows anew same fits =
@@ -271,33 +270,18 @@ module _ {H : Type 0} (answer_of : H → Command → Answer) (after : H → Comm
     by_way claims keeps address k r p PacketIsLost knows anew same fits = silent_says claims keeps (asked p)
 
     -- what is heard of a packet, if that says something of what was asked
-    judged_fine : (aspect : Aspect) (claims : Claims) (keeps : KeepsClaims answer_of claims) (address : ℕ) (k : Known) (p : Packet) (o : Option Packet)
+    pub judged_fine : (aspect : Aspect) (claims : Claims) (keeps : KeepsClaims answer_of claims) (address : ℕ) (k : Known) (p : Packet) (o : Option Packet)
         → (is_anew address k p ≡ true → Says claims keeps (asked p) o) → IsFine (claim_judged aspect address k claims p o)
     judged_fine aspect claims keeps address k p o so =
         cond_both (is_anew address k p) (claim_heard aspect claims (asked p) o) Nothing IsFine (λ anew. (so anew).0 aspect) (λ other. tt)
 
-    after_kept : (claims : Claims) (keeps : KeepsClaims answer_of claims) (address : ℕ) (k : Known) (p : Packet) (o : Option Packet)
+    pub after_kept : (claims : Claims) (keeps : KeepsClaims answer_of claims) (address : ℕ) (k : Known) (p : Packet) (o : Option Packet)
         → (is_anew address k p ≡ true → Says claims keeps (asked p) o) → KeepsClaims answer_of (claims_after address k p o claims)
     after_kept claims keeps address k p o so =
         cond_both (is_anew address k p) (claims_by (asked p) o claims) claims (λ c. KeepsClaims answer_of c) (λ anew. (so anew).1) (λ other. keeps)
 
-    all_claims : (aspect : Aspect) (address : ℕ) (k : Known) (claims : Claims) → KeepsClaims answer_of claims → (r : ReaderState H) (xs : List (Exchange H))
-        → Knows address k r → Follows answer_of after r xs → SaysStill caps xs
-        → AreFine (claim_findings answer_of after aspect address k claims xs)
-    all_claims aspect address k claims keeps r [] knows follows still = tt
-    all_claims aspect address k claims keeps r (x ∷ xs) knows follows still =
-        let here = knows_still address k r x.reader knows follows.0 in
-        let heard = heard_in answer_of after x in
-        let so : (is_anew address k x.packet ≡ true → Says claims keeps (asked x.packet) heard) =
-        λ anew. by_way claims keeps address k x.reader x.packet x.way here anew still.0 follows.1 in (
-          judged_fine aspect claims keeps address k x.packet heard so,
-          all_claims aspect address (known_after address x.packet heard k) (claims_after address k x.packet heard claims)
-              (after_kept claims keeps address k x.packet heard so) (reader_after answer_of after x) xs
-              (one_known answer_of after reads address k x here) follows.2 still.1,
-        )
-
   -- nothing was said: each handler keeps it
-  nothing_said : KeepsClaims answer_of no_claims
+  pub nothing_said : KeepsClaims answer_of no_claims
   nothing_said = record {
     inputs = λ h n states said is. absurd (none_some n said);
     outputs = λ h n states said is. absurd (none_some n said);
@@ -305,11 +289,6 @@ module _ {H : Type 0} (answer_of : H → Command → Answer) (after : H → Comm
     no_led = λ h n records said beyond is. none_some n said;
     no_display = λ h text said is. none_some 0 said;
   }
-
-  pub breaks_no_claim : BreaksNoClaim answer_of after
-  breaks_no_claim aspect r xs follows still truth =
-      never_broken (claim_findings answer_of after aspect r.config.address Unknown no_claims xs)
-      (all_claims r.config.caps.items truth aspect r.config.address Unknown no_claims nothing_said r xs refl follows still)
 
 -- ---- what the rules about CAP leave open
 

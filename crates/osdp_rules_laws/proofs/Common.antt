@@ -13,8 +13,8 @@ pub use Rattle.osdp_rules.specs.Known.{after_answer, after_heard, after_sent, kn
 pub use Rattle.osdp_rules.specs.declared.aspect.Aspect.{Aspect}
 pub use Rattle.osdp_rules.specs.declared.known.Known.{Known}
 pub use Rattle.osdp_rules.specs.declared.known.Known.TheVariants.{Gone, Opened, Took, Unknown}
-pub use Rattle.osdp_rules_laws.specs.Laws.{AnyRefusalIsOne, BreaksNoRule, DevicesMayDiffer, FindsAnotherAnswer, MayBeBusy, OtherCodesBreakNothing}
-pub use Rattle.osdp_rules_laws.specs.Runs.{AnswerIsLost, Comes, Exchange, findings, Follows, heard_by, heard_in, IsStill, PacketIsLost, reader_after, reader_by, Way}
+pub use Rattle.osdp_rules_laws.specs.Laws.{AnyRefusalIsOne, DevicesMayDiffer, MayBeBusy, OtherCodesBreakNothing}
+pub use Rattle.osdp_rules_laws.specs.Runs.{AnswerIsLost, Comes, Exchange, Follows, heard_by, heard_in, IsStill, PacketIsLost, reader_after, reader_by, Way}
 pub use Rattle.osdp_msg.specs.declared.event.Event.{Event}
 pub use Rattle.osdp_msg.specs.declared.fault.MsgFault.{MsgFault}
 pub use Rattle.osdp_msg.specs.declared.nak.NakReason.{NakReason}

@@ -40,7 +40,7 @@ abbrev pub IsUnbroken : Verdict → Type 0
 IsUnbroken verdict.Broken = ⊥
 IsUnbroken v = Unit {0}
 
-stays : (v : Verdict) (f : Finding) → IsUnbroken v → IsFine f → IsUnbroken (verdict_after v f)
+pub stays : (v : Verdict) (f : Finding) → IsUnbroken v → IsFine f → IsUnbroken (verdict_after v f)
 stays verdict.Broken f unbroken fine = unbroken
 stays verdict.Unclear Broken unbroken fine = fine
 stays verdict.Ok Broken unbroken fine = fine

@@ -3,8 +3,19 @@ use Rattle.osdp_rules_laws.proofs.Common.{[], ap, Bool, cond, false, List, nat_l
 use Rattle.std.proofs.Common.{◌+◌, ◌-◌, ◌*◌, ◌/◌, ◌<◌, ◌≤◌, arith, sum, take}
 use Rattle.std.proofs.lemmas.Bool.{leb-false, leb-true}
 use Rattle.std.proofs.lemmas.List.Sums.{sum_by-cons}
-use Rattle.osdp_rules.specs.Delays.{nth_from}
-use Rattle.osdp_rules_laws.specs.Laws.{IsShare, TellsShares}
+use Rattle.osdp_rules.specs.Delays.{median, most, nth_from}
+use Rattle.osdp_rules.specs.declared.delays.Delays.{Delays}
+
+-- Of each 100 of these answers so many took no longer than this, and fewer took less: by how many took each number of milliseconds.
+pub record IsShare (of_hundred milliseconds : ℕ) (counts : List ℕ) : Type 0 where
+  pub no_longer : of_hundred * sum counts ≤ 100 * sum (take (milliseconds + 1) counts)
+  pub less : 100 * sum (take milliseconds counts) < of_hundred * sum counts
+
+-- half of the answers of a run are told so, and 95 of 100
+abbrev pub TellsShares : Type 0
+TellsShares = (run : Delays) (milliseconds : ℕ) → run.total ≡ sum run.counts → 0 < run.total
+    → (median run ≡ Some milliseconds → IsShare 50 milliseconds run.counts)
+    × (most run ≡ Some milliseconds → IsShare 95 milliseconds run.counts)
 
 -- the n-th answer stands so far after the first bucket: as many answers stand up to there, and fewer before
 record Stands (bucket n : ℕ) (counts : List ℕ) (place : ℕ) : Type 0 where

@@ -1,3 +1,10 @@
+pub mod Instances
+pub mod Delaying
+pub mod Comes
+pub mod Terms
+pub mod Lists
+pub mod Caps
+pub mod Rules
 pub mod Runs
 pub mod Laws
 pub mod Claims

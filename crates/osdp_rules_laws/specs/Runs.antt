@@ -1,16 +1,17 @@
 -- A device of our reader's table, and somebody who tests it over a line that keeps order and loses what it likes.
-use Rattle.std.specs.Prelude.{◌≡◌, ℕ, List, [], ◌∷◌, Option, None, IfSome}
+use Rattle.std.specs.Prelude.{◌≡◌, ◌⊎◌, ◌≤◌, List, [], ◌∷◌, length, Option, Some, None, IfSome}
 use Rattle.osdp_frame.specs.Packet.{Packet}
 use Rattle.osdp_msg.specs.ReplyTable.{ReplyFits}
 use Rattle.osdp_msg.specs.declared.command.Command.{Command}
 use Rattle.osdp_reader.specs.declared.handler.Answer.{Answer}
 use Rattle.osdp_reader.specs.State.{ReaderState}
 use Rattle.osdp_reader.specs.Table.{hears}
-use Rattle.osdp_rules.specs.Judging.{judged}
-use Rattle.osdp_rules.specs.Known.{known_after}
-use Rattle.osdp_rules.specs.declared.aspect.Aspect.{Aspect}
-use Rattle.osdp_rules.specs.declared.finding.Finding.{Finding}
-use Rattle.osdp_rules.specs.declared.known.Known.{Known}
+use Rattle.osdp_rules.specs.Runs.{Sent, heard}
+
+-- bytes that hold no packet, and no answer
+pub record IsNoise (y : Sent) : Type 0 where
+  pub packet : y.packet ≡ None
+  pub answers : y.answers ≡ []
 
 -- what the line does with a packet and its answer
 pub data Way : Type 0 where
@@ -54,9 +55,15 @@ module _ {H : Type 0} where
     Follows r (x ∷ xs) =
         IsStill r x.reader × IfSome (hears answer_of after x.reader x.packet).said ReplyFits × Follows (reader_after x) xs
 
-    -- what each exchange shows of a rule, by what is known from those before it
-    abbrev pub findings : Aspect → ℕ → Known → List (Exchange H) → List Finding
-    findings aspect address k [] = []
-    findings aspect address k (x ∷ xs) =
-        judged aspect address k x.packet (heard_in x)
-        ∷ findings aspect address (known_after address x.packet (heard_in x) k) xs
+    -- what went over the line at an exchange: its packet, and the answer that was heard, if any, once and within 200 ms
+    pub record IsSaid (x : Exchange H) (y : Sent) : Type 0 where
+      pub packet : y.packet ≡ Some x.packet
+      pub answer : heard y ≡ heard_in x
+      pub once : length y.answers ≤ 1
+      pub in_time : y.delay ≤ 200
+
+    -- these exchanges went over the line, and between them bytes that hold no packet, which no reader answers
+    abbrev pub WereSaid : List (Exchange H) → List Sent → Type 0
+    WereSaid xs [] = Unit {0}
+    WereSaid [] (y ∷ ys) = IsNoise y × WereSaid [] ys
+    WereSaid (x ∷ xs) (y ∷ ys) = (IsNoise y × WereSaid (x ∷ xs) ys) ⊎ (IsSaid x y × WereSaid xs ys)

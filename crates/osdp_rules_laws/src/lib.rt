@@ -2,13 +2,17 @@
 //! functions do nothing: their contracts are laws.
 #![tactic(auto)]
 
-ghost use Rattle.osdp_rules_laws.specs.Laws.{AnyRefusalIsOne, BreaksNoRule, DamageBreaksNothing, DevicesMayDiffer, FindsAddress, FindsAnotherAnswer, FindsBlock, FindsBusyNumber, FindsCheck, FindsHeardNoise, FindsLate, FindsLateRun, FindsNumber, FindsSecondAnswer, FindsTakenCode, FindsTakenLength, FindsTakenOutOfTurn, FindsTalk, FindsTurnedAway, FindsUnfit, FindsUnread, FindsUnserved, KeepsInTime, KnowsAnswers, MayBeBusy, OtherCodesBreakNothing, SilenceBreaksNothing, TellsShares};
-ghost use Rattle.osdp_rules_laws.specs.Claims.{BreaksNoClaim, FindsDoneLed, FindsDoneOutput, FindsDoneText, FindsInputs, FindsOutputs, KnowsDisplays, ReadersAreOpen, RefusalIsNoLie};
+ghost use Rattle.osdp_rules.specs.declared.aspect.Aspect.TheVariants as rule;
+ghost use Rattle.osdp_rules_laws.specs.Claims.{BreaksNoClaim, ReadersAreOpen, RefusalIsNoLie};
+ghost use Rattle.osdp_rules_laws.specs.Comes.{AccusesNoOther, FindsWhatBreaks, Judges};
+ghost use Rattle.osdp_rules_laws.specs.Laws.{AnyRefusalIsOne, BreaksNoRule, DamageBreaksNothing, DevicesMayDiffer, MayBeBusy, OtherCodesBreakNothing, SilenceBreaksNothing};
+ghost use Rattle.osdp_rules_laws.specs.Delaying.{TellsDelays};
+ghost use Rattle.osdp_rules_laws.specs.Instances.{EachCanBeBroken};
 
 use osdp_reader::Handler;
 
 /// Whatever is sent to a reader of ours, in whatever state it is, whatever its handler answers, whatever its device does between two packets, and
-/// whatever the line loses: no rule is broken.
+/// whatever the line loses: no rule is broken, where its answers come within 200 ms, and in whatever scenarios this is judged.
 pub fn breaks_no_rule<H: Handler>()
     ensures { BreaksNoRule H.answer_of H.after }
 {
@@ -31,50 +35,60 @@ pub fn leaves_open()
     ensures devices { DevicesMayDiffer }
 {}
 
-/// An answer with another address, check or number than its packet, or with a security block, breaks its rule.
+/// What breaks a rule at one place of a list of what was sent and heard is found, whatever came before and after it, and where no place breaks it, it is not accused.
+pub fn finds_what_breaks()
+    ensures finds { FindsWhatBreaks }
+    ensures accuses { AccusesNoOther }
+{}
+
+/// Each rule but the one on security blocks can be broken: of each there is a list of packets and answers on which its verdict is broken.
+pub fn each_can_be_broken()
+    ensures { EachCanBeBroken }
+{}
+
+/// By that list an answer's address, check, number and security block are judged. Each is broken exactly where a place breaks it, left open where one leaves it open and
+/// none breaks it, ok where a place keeps it and none does else, and unclear where none shows anything.
 pub fn finds_wrong_heads()
-    ensures address { FindsAddress }
-    ensures check { FindsCheck }
-    ensures number { FindsNumber }
-    ensures block { FindsBlock }
+    ensures address { Judges rule.Address }
+    ensures check { Judges rule.Check }
+    ensures number { Judges rule.Number }
+    ensures block { Judges rule.Plain }
 {}
 
-/// So does the answer of another command, the refusal of POLL, ID or CAP, and a reply with a wrong length or count. NAK, BUSY and MFGREP answer no command more than another.
+/// So are an answer that fits its command or doesn't, refusals of POLL, ID and CAP, the length and counts of a reply, and BUSY's number.
 pub fn finds_wrong_replies()
-    ensures unfit { FindsUnfit }
-    ensures unserved { FindsUnserved }
-    ensures unread { FindsUnread }
-    ensures busy { FindsBusyNumber }
-    ensures answers { KnowsAnswers }
+    ensures unfit { Judges rule.Fit }
+    ensures unserved { Judges rule.Served }
+    ensures unread { Judges rule.Read }
+    ensures busy { Judges rule.Busy }
 {}
 
-/// A command that isn't one and is neither refused nor put off breaks its rule.
+/// So are the answers to a code that no command has, to a wrong length or count, and to a security block.
 pub fn finds_taken_nonsense()
-    ensures code { FindsTakenCode }
-    ensures length { FindsTakenLength }
+    ensures code { Judges rule.Code }
+    ensures length { Judges rule.Length }
+    ensures block { Judges rule.Block }
 {}
 
-/// A new number that is refused, a number out of turn that isn't, and another answer to a packet that comes again break their rules.
+/// So are the answers to a new number, to one out of turn, and to the packet that was taken last.
 pub fn finds_wrong_turns()
-    ensures refused { FindsTurnedAway }
-    ensures taken { FindsTakenOutOfTurn }
-    ensures again { FindsAnotherAnswer }
+    ensures refused { Judges rule.Turn }
+    ensures taken { Judges rule.Wrong }
+    ensures again { Judges rule.Repeat }
 {}
 
-/// An answer to what isn't to the device, to bytes without a packet, and a second answer break their rules.
+/// So are answers to what isn't to the device and to bytes without a packet, second answers, and answers that begin after more than 200 ms.
 pub fn finds_talk()
-    ensures others { FindsTalk }
-    ensures noise { FindsHeardNoise }
-    ensures second { FindsSecondAnswer }
+    ensures others { Judges rule.Quiet }
+    ensures noise { Judges rule.Deaf }
+    ensures second { Judges rule.Single }
+    ensures late { Judges rule.Prompt }
 {}
 
-/// An answer that begins after more than 200 ms breaks its rule, and each other keeps it. Over a run the longest time decides. Of the answers of
-/// a run half took no longer than is told of them, and fewer took less; so it is with 95 of 100.
+/// The longest and the shortest delay of a run are those of the list of its delays, and the longest decides: the rule is broken where one is more than 200 ms, and else kept by some.
+/// Half of the delays were no longer than is told of them, and fewer were less; so it is with 95 of 100. The first 2^32 - 1 are counted, and 1,000 ms stand for all that took longer.
 pub fn finds_late()
-    ensures late { FindsLate }
-    ensures in_time { KeepsInTime }
-    ensures run { FindsLateRun }
-    ensures shares { TellsShares }
+    ensures { TellsDelays }
 {}
 
 /// Where the handler of a reader of ours does what its CAP says, no rule about CAP is broken: whatever is sent to it, in whatever state it is, and
@@ -86,19 +100,14 @@ pub fn breaks_no_claim<H: Handler>()
     osdp_msg_laws::replies_fit_a_packet();
 }
 
-/// A list with more or fewer entries than CAP tells, and ACK to an order to an output, an LED or a display that it doesn't tell, break their rules.
+/// So are lists and orders against what the bytes of the last PDCAP tell: inputs, outputs, LEDs and readers by their count, a display by its level.
 pub fn finds_lies()
-    ensures inputs { FindsInputs }
-    ensures outputs { FindsOutputs }
-    ensures done_output { FindsDoneOutput }
-    ensures done_led { FindsDoneLed }
-    ensures done_text { FindsDoneText }
+    ensures lists { Judges rule.Listed }
+    ensures beyond { Judges rule.Beyond }
 {}
 
-/// What the rules about CAP leave open: to refuse is no lie, and neither is any number of readers. Nor is what a display does with a text that is longer than itself, of 16,
-/// 32 or 64 characters by its level.
+/// What the rules about CAP leave open: to refuse is no lie, and neither is any number of readers.
 pub fn leaves_claims_open()
     ensures refusals { RefusalIsNoLie }
     ensures readers { ReadersAreOpen }
-    ensures displays { KnowsDisplays }
 {}

@@ -2,6 +2,7 @@
 use Rattle.osdp_shared_line.proofs.Common.{◌≡◌, ◌≢◌, ◌⊎◌, ◌<◌, ℕ, zero, suc, Bool, true, false, cond, leb, ltb, List, [], ◌∷◌, ◌++◌, Option, Some, None, IfSome, refl, sym, subst, ap, ◌∙◌, inl, inr, append_assoc, ltb-true, ◌||◌, is_some, not, Room, Packet, CommandFits, Command, Communication, Event, has_comset, comset_of, ControllerFault, State, Closed, Quiet, Idle, Waiting, Pausing, Answer, lost_at, each_append, each_map, each_of, each_rest, is_true, Each, HasNoOther, IsAsked, IsFreeFor, IsNameOf, IsSaid, IsThere, Sets, Somewhere, option_to_list, outstanding_command, ahead, unended, Net, Site, address_of, calls, changed, is_command_accepted, is_comset_refused, is_reserved, is_retarget_accepted, is_retarget_refused, is_taken, is_taken_beside, site_at, takes_up, IsQuiet}
 use Rattle.osdp_msg.specs.declared.command.Command.TheVariants as command
 use Rattle.osdp_controller.specs.Machine as controllers
+use Rattle.osdp_link_laws.proofs.OnItsWay.{kept_beside, kept_is}
 use Rattle.osdp_controller.specs.Machine.{Machine}
 use Rattle.osdp_controller.specs.declared.fault.ControllerFault.TheVariants.{OutOfRange}
 use Rattle.osdp_reader.specs.declared.config.ReaderConfig.{ReaderConfig}
@@ -55,10 +56,15 @@ set_is (command.Comset d) to is = by_test (leb d.address 126) is
 set_is _ to is = absurd cc
 
 -- what is left of the commands where one is withdrawn
+left_beside : (o : Option Command) (ws : List Command) → AreLeft (option_to_list o ++ ws) (option_to_list o ++ kept_beside o ws)
+left_beside (Some c) ws = ([], refl)
+left_beside None [] = ([], refl)
+left_beside None (c ∷ cs) = (c ∷ [], refl)
+
 pub left_withdrawn : (state : State) (ws : List Command) → AreLeft (option_to_list (outstanding_command state) ++ ws) (option_to_list (outstanding_command state) ++ controllers.kept_in state ws)
-left_withdrawn Closed [] = ([], refl)
-left_withdrawn Closed (c ∷ cs) = (c ∷ [], refl)
-left_withdrawn _ ws = ([], refl)
+left_withdrawn state ws =
+    subst (λ (kept : List Command). AreLeft (option_to_list (outstanding_command state) ++ ws) (option_to_list (outstanding_command state) ++ kept)) (sym (kept_is state ws))
+    (left_beside (outstanding_command state) ws)
 
 -- nothing is read, or what stands at one place
 pub data IsRead (old new : List (ℕ × Packet)) : Type 0 where

@@ -28,6 +28,7 @@ pub use Rattle.osdp_msg.specs.declared.reply.Reply.{Reply}
 pub use Rattle.osdp_msg.specs.declared.reply_fields.PdId.{PdId}
 pub use Rattle.osdp_controller.specs.Answers.{meaning_of, meaning_of as said_by}
 pub use Rattle.osdp_controller.specs.Sessions.{frame_of, later, seen}
+pub use Rattle.osdp_controller.proofs.Idling.{idle_way}
 pub use Rattle.osdp_controller.specs.Ticking.{begins, gives_up, sends_frame, stays, Ticked, ticks, ticks_in, tries_again}
 pub use Rattle.osdp_controller.specs.declared.exchange.Exchange.{Exchange}
 pub use Rattle.osdp_controller.specs.declared.exchange.Exchange.TheVariants.{Asking, Opening, Polling}

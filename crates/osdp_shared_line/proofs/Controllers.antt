@@ -1,5 +1,5 @@
 -- What a controller sends and where it goes: a frame to its own address, and the address of its outstanding COMSET.
-use Rattle.osdp_shared_line.proofs.Common.{◌≡◌, ◌⊎◌, ◌<◌, ◌+◌, ℕ, Bool, true, false, cond, leb, ltb, eqb, List, [], ◌∷◌, ◌++◌, Option, Some, None, refl, sym, subst, ap, ◌∙◌, inl, inr, arith, leb-false, ltb-true, eqb_tells, append-nil, ◌&&◌, not, nat_le, option_to_list, Packet, next_sequence, CommandFits, Command, Communication, Reply, PdId, said_by, Heard, answered, answered_unread, com_of, command_answered, comset_of, hears, hears_busy, hears_in, ignores, is_numbered, loses, moved_by, opening_answered, pausing_hears, pd_id_of, waiting_hears, frame_of, later, seen, Ticked, begins, gives_up, sends_frame, stays, ticks_in, tries_again, Exchange, Opening, Polling, Asking, Outstanding, ReplyMeaning, NotTaken, Damaged, NumberRefused, Plain, Unreadable, Session, State, Closed, Quiet, Idle, Waiting, Pausing, ReadsWhatIsAsked, both, Each, Sets, SetsReader, Somewhere, address_in, outstanding_command, submitted_command}
+use Rattle.osdp_shared_line.proofs.Common.{◌≡◌, ◌⊎◌, ◌<◌, ◌+◌, ℕ, Bool, true, false, cond, leb, ltb, eqb, List, [], ◌∷◌, ◌++◌, Option, Some, None, refl, sym, subst, ap, ◌∙◌, inl, inr, arith, leb-false, ltb-true, eqb_tells, append-nil, ◌&&◌, not, nat_le, option_to_list, Packet, next_sequence, CommandFits, Command, Communication, Reply, PdId, said_by, Heard, answered, answered_unread, com_of, command_answered, comset_of, hears, hears_busy, hears_in, ignores, is_numbered, loses, moved_by, opening_answered, pausing_hears, pd_id_of, waiting_hears, frame_of, later, seen, Ticked, begins, idle_way, gives_up, sends_frame, stays, ticks_in, tries_again, Exchange, Opening, Polling, Asking, Outstanding, ReplyMeaning, NotTaken, Damaged, NumberRefused, Plain, Unreadable, Session, State, Closed, Quiet, Idle, Waiting, Pausing, ReadsWhatIsAsked, both, Each, Sets, SetsReader, Somewhere, address_in, outstanding_command, submitted_command}
 use Rattle.osdp_msg.specs.declared.command.Command.TheVariants as command
 use Rattle.osdp_controller.specs.declared.report.LostCause.{LostCause}
 use Rattle.osdp_controller.specs.declared.report.LostCause.TheVariants as causes
@@ -78,16 +78,13 @@ module _ (reads : ReadsWhatIsAsked) where
       by_state Closed at fits = rests Closed ws at
       by_state (Quiet until) at fits =
           both (TicksWell s.config.address ws) (leb until s.greatest) (begins Opening 0 s ws) (stays s ws)
-          (sending 1 (record { exchange = Opening; busies = 0; sent = 0 }) (record s { number = 0 }) ws fits) (rests (Quiet until) ws at)
-      by_state (Idle due) at fits = idle ws fits
-        where
-          idle : (cs : List Command) → Each CommandFits cs → TicksWell s.config.address cs (ticks_in (Idle due) s cs)
-          idle [] fits =
-              both (TicksWell s.config.address []) (leb due s.greatest) (begins Polling (next_sequence s.number) s []) (stays s [])
-              (sending 1 (record { exchange = Polling; busies = 0; sent = 0 }) (record s { number = next_sequence s.number }) [] tt)
-              (rests (Idle due) [] at)
-          idle (c ∷ rest) fits =
-              sending 1 (record { exchange = Asking c; busies = 0; sent = 0 }) (record s { number = next_sequence s.number }) rest fits
+          (sending 1 (record { exchange = Opening; busies = 0; sent = 0 }) (record s { number = 0; asked = false }) ws fits) (rests (Quiet until) ws at)
+      by_state (Idle due) at fits =
+          idle_way (TicksWell s.config.address ws) due s ws
+          (λ e. sending 1 (record { exchange = Polling; busies = 0; sent = 0 }) (record s { number = next_sequence s.number; asked = false }) ws fits)
+          (λ e. rests (Idle due) ws at)
+          (λ c rest e. subst (λ cs. TicksWell s.config.address cs (begins (Asking c) (next_sequence s.number) s rest)) (sym e)
+          (sending 1 (record { exchange = Asking c; busies = 0; sent = 0 }) (record s { number = next_sequence s.number; asked = true }) rest (subst (Each CommandFits) e fits)))
       by_state (Waiting until k o) at fits =
           both (TicksWell s.config.address (option_to_list (submitted_command o.exchange) ++ ws)) (leb until s.greatest) (tries_again k o s ws) (stays s ws)
           (both (TicksWell s.config.address (option_to_list (submitted_command o.exchange) ++ ws)) (ltb k s.config.sends) (sends_frame (k + 1) o s ws) (gives_up o s ws)

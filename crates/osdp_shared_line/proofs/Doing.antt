@@ -40,8 +40,8 @@ module _ {H : Type 0} (answer_of : H → Command → Answer) (after : H → Comm
 
   each_withdraws : effects.Withdraws answer_of after → EachWithdraws answer_of after
   each_withdraws withdraws = record {
-    first = λ n k c ws s t h closed is.
-        subst (HasTakenBack ws (view k s n)) (sym (one_after n (Withdraw k) k s t link.Withdraw h tt refl)) (withdraws.first (view k s n) c ws closed is);
+    first = λ n k c ws s t h still is.
+        subst (HasTakenBack ws (view k s n)) (sym (one_after n (Withdraw k) k s t link.Withdraw h tt refl)) (withdraws.first (view k s n) c ws still is);
     none = λ n k s t h why. one_after n (Withdraw k) k s t link.Withdraw h tt refl ∙ withdraws.none (view k s n) why;
   }
 

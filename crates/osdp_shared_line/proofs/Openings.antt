@@ -1,5 +1,5 @@
 -- While a session that was begun hasn't opened, its controller asks for the opening ID alone.
-use Rattle.osdp_shared_line.proofs.Common.{◌≡◌, ◌⊎◌, ◌+◌, ℕ, true, leb, ltb, eqb, List, Option, Some, None, refl, sym, subst, ap, ◌∙◌, inl, inr, arith, ◌&&◌, not, option_to_list, Packet, Command, Reply, PdId, said_by, Heard, answered, answered_unread, hears, hears_busy, hears_in, ignores, is_numbered, loses, opening_answered, pausing_hears, pd_id_of, waiting_hears, frame_of, later, seen, Ticked, begins, gives_up, sends_frame, stays, ticks_in, tries_again, Exchange, Opening, Polling, Asking, Outstanding, ReplyMeaning, NotTaken, Damaged, NumberRefused, Plain, Unreadable, Session, State, Closed, Quiet, Idle, Waiting, Pausing, command_in, ReadsWhatIsAsked, both, Each, SetsReader, address_in, is_opened}
+use Rattle.osdp_shared_line.proofs.Common.{◌≡◌, ◌⊎◌, ◌+◌, ℕ, false, true, leb, ltb, eqb, List, Option, Some, None, refl, sym, subst, ap, ◌∙◌, inl, inr, arith, ◌&&◌, not, option_to_list, Packet, Command, Reply, PdId, said_by, Heard, answered, answered_unread, hears, hears_busy, hears_in, ignores, is_numbered, loses, opening_answered, pausing_hears, pd_id_of, waiting_hears, frame_of, later, seen, Ticked, begins, gives_up, sends_frame, stays, ticks_in, tries_again, Exchange, Opening, Polling, Asking, Outstanding, ReplyMeaning, NotTaken, Damaged, NumberRefused, Plain, Unreadable, Session, State, Closed, Quiet, Idle, Waiting, Pausing, command_in, ReadsWhatIsAsked, both, Each, SetsReader, address_in, is_opened}
 use Rattle.osdp_controller.specs.declared.report.LostCause.TheVariants as causes
 
 abbrev pub IsOpeningIn : Exchange → Type 0
@@ -47,7 +47,7 @@ module _ (reads : ReadsWhatIsAsked) where
       by_state Closed at opens = rests Closed at opens
       by_state (Quiet until) at opens =
           both OpensOn (leb until s.greatest) (begins Opening 0 s ws) (stays s ws)
-          (sending 1 (record { exchange = Opening; busies = 0; sent = 0 }) (record s { number = 0 }) ws tt) (rests (Quiet until) at opens)
+          (sending 1 (record { exchange = Opening; busies = 0; sent = 0 }) (record s { number = 0; asked = false }) ws tt) (rests (Quiet until) at opens)
       by_state (Idle due) at opens = absurd opens
       by_state (Waiting until k o) at opens =
           both OpensOn (leb until s.greatest) (tries_again k o s ws) (stays s ws)

@@ -383,6 +383,10 @@ module _ {H : Type 0} (answer_of : H → Command → Answer) (after : H → Comm
         → IsItsLink answer_of after k first moves n
     its_link n moves turns k first s last h = each_is_a_link answer_of after known n moves h.up h.fits k first h.was
 
+    -- orders go out one after the other
+    abbrev OneAfterTheOther : Link H → Type 0
+    OneAfterTheOther l = l.controller.session.config.poll_between_orders ≡ false
+
     -- what its link tells over its own rounds the net tells over those of all
     come_on : (n : Net H) (moves : List (NetMove H)) (turns : List (ℕ × ℕ)) (k : ℕ) (first s last : Site H) → AreRounds answer_of after n moves turns k first s last
         → let later = run answer_of after moves n in
@@ -392,17 +396,17 @@ module _ {H : Type 0} (answer_of : H → Command → Answer) (after : H → Comm
         subst (λ rs. min (length (moments_of k turns) - 1) (count_ahead (view k s later)) ≤ told_in rs) (sym (come n moves turns k first s last h).2) comes
 
     pub each_comes_through : ComesThrough answer_of after → EachComesThrough answer_of after
-    each_comes_through through n moves turns k first s last h due =
+    each_comes_through through n moves turns k first s last h plain due =
         let own = its_link n moves turns k first s last h in
         let came = come n moves turns k first s last h in
         let same = viewed answer_of after n moves k first s own h.is in
         come_on n moves turns k first s last h (subst (ComeOn answer_of after (moments_of k turns)) (sym same)
         (through (view k first n) (moves_of answer_of after k moves n) (moments_of k turns) (h.up.begins k first h.was) own.fits
-        (subst IsClear same h.ready) (subst (AreDue answer_of after (moments_of k turns)) same due)
+        (subst IsClear same h.ready) (subst OneAfterTheOther same plain) (subst (AreDue answer_of after (moments_of k turns)) same due)
         (subst (MovesFit answer_of after (rounds (moments_of k turns))) same came.1)))
 
     pub each_comes_through_in_time : ComesThroughInTime answer_of after → EachComesThroughInTime answer_of after
-    each_comes_through_in_time through n moves turns k first s last h range late =
+    each_comes_through_in_time through n moves turns k first s last h plain range late =
         let later = run answer_of after moves n in
         let own = its_link n moves turns k first s last h in
         let came = come n moves turns k first s last h in
@@ -411,7 +415,7 @@ module _ {H : Type 0} (answer_of : H → Command → Answer) (after : H → Comm
         (subst (λ (l : Link H). ((link.run answer_of after (rounds (moments_of k turns)) l).controller.session.state ≡ Closed)
         ⊎ ComeOn answer_of after (moments_of k turns) l) (sym same)
         (through (view k first n) (moves_of answer_of after k moves n) (moments_of k turns) (h.up.begins k first h.was) range own.fits
-        (subst IsClear same h.ready) (subst (AreLate answer_of after (moments_of k turns)) same late)
+        (subst IsClear same h.ready) (subst OneAfterTheOther same plain) (subst (AreLate answer_of after (moments_of k turns)) same late)
         (subst (MovesFit answer_of after (rounds (moments_of k turns))) same came.1)))) [
           | inl ended ↦ inl ended
           | inr comes ↦ inr (come_on n moves turns k first s last h comes)

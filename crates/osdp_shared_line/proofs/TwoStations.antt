@@ -159,6 +159,7 @@ module _ {H : Type 0} (answer_of : H → Command → Answer) (after : H → Comm
       last = the_site (site_at 0 later.sites) handler;
       rounds = are_rounds 0 (station_at 3 handler) refl tt refl refl
           (record { to_reader = refl; to_controller = refl; address = refl; ready = refl; stays = both_wait });
+      in_a_row = refl;
       range = in_range 3 handler;
       due = (refl, (refl, (refl, tt)));
       late = (omega arith, (omega arith, (omega arith, tt)));
@@ -172,6 +173,7 @@ module _ {H : Type 0} (answer_of : H → Command → Answer) (after : H → Comm
       last = the_site (site_at 1 later.sites) handler;
       rounds = are_rounds 1 (station_at 4 other) refl tt refl refl
           (record { to_reader = refl; to_controller = refl; address = refl; ready = refl; stays = one_waits });
+      in_a_row = refl;
       range = in_range 4 other;
       due = (refl, (refl, tt));
       late = (omega arith, (omega arith, tt));

@@ -8,6 +8,7 @@ use Rattle.osdp_controller.specs.declared.state.State.TheVariants.{Closed}
 use Rattle.osdp_reader.specs.declared.config.ReaderConfig.{ReaderConfig}
 use Rattle.osdp_reader.specs.declared.handler.Answer.{Answer}
 use Rattle.osdp_link_laws.specs.Effects.{AnswersBy, HasAddress, HasHandler, HasLapsed, HasNewController, HasNewReader, HasTakenBack, HasWithdrawn}
+use Rattle.osdp_link_laws.specs.Link.{outstanding_command}
 use Rattle.osdp_shared_line.specs.Line.{LoseToReader, Net, NetMove, Queue, Reopen, RestartPanel, RestartReader, Retarget, SetBusy, SetHandler, Site, Submit, Withdraw, LapseEvent, WithdrawEvent, after_net, is_retarget_accepted, site_at}
 use Rattle.osdp_shared_line.specs.Views.{HeardByOwn, view}
 
@@ -36,10 +37,10 @@ module _ {H : Type 0} where
 
     pub record EachWithdraws : Type 0 where
       pub first : (n : Net H) (k : ℕ) (command : Command) (waiting : List Command) (s t : Site H) → IsChanged n (Withdraw k) k s t
-          → s.controller.session.state ≡ Closed → s.controller.waiting ≡ command ∷ waiting
+          → outstanding_command s.controller.session.state ≡ None → s.controller.waiting ≡ command ∷ waiting
           → HasTakenBack waiting (view k s n) (view k t (after_net answer_of after (Withdraw k) n))
       pub none : (n : Net H) (k : ℕ) (s t : Site H) → IsChanged n (Withdraw k) k s t
-          → (s.controller.session.state ≢ Closed) ⊎ (s.controller.waiting ≡ []) → view k t (after_net answer_of after (Withdraw k) n) ≡ view k s n
+          → (outstanding_command s.controller.session.state ≢ None) ⊎ (s.controller.waiting ≡ []) → view k t (after_net answer_of after (Withdraw k) n) ≡ view k s n
 
     pub record EachWithdrawsEvents : Type 0 where
       pub first : (n : Net H) (k : ℕ) (front : List Event) (event : Event) (rest : List Event) (s t : Site H) → IsChanged n (WithdrawEvent k) k s t

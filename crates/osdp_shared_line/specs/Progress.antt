@@ -1,5 +1,5 @@
 -- Progress on a line with several readers: what rounds that lose nothing come to for each of them.
-use Rattle.std.specs.Prelude.{◌≡◌, ◌⊎◌, ◌≤◌, ℕ, ◌-◌, min, zero, suc, ◌==◌, if◌then◌else◌, List, [], ◌∷◌, ◌++◌, length, Some, IfSome}
+use Rattle.std.specs.Prelude.{◌≡◌, ◌⊎◌, ◌≤◌, ℕ, ◌-◌, false, min, zero, suc, ◌==◌, if◌then◌else◌, List, [], ◌∷◌, ◌++◌, length, Some, IfSome}
 use Rattle.osdp_msg.specs.declared.command.Command.{Command}
 use Rattle.osdp_controller.specs.declared.state.State.TheVariants.{Closed}
 use Rattle.osdp_controller_laws.specs.Calls.{IsInRange}
@@ -76,16 +76,16 @@ module _ {H : Type 0} where
     ComesOn k turns s n = min (length (moments_of k turns) - 1) (count_ahead (view k s n))
         ≤ told_in (reports_at answer_of after k (net_rounds (length n.sites) turns) s n)
 
-    -- so it is where each tick of its own is due ..
+    -- so it is where orders go out one after the other and each tick of its own is due ..
     abbrev pub EachComesThrough : Type 0
     EachComesThrough = (n : Net H) (moves : List (NetMove H)) (turns : List (ℕ × ℕ)) (k : ℕ) (first s last : Site H)
-        → AreRounds n moves turns k first s last
+        → AreRounds n moves turns k first s last → s.controller.session.config.poll_between_orders ≡ false
         → let later = run answer_of after moves n in
         AreDue answer_of after (moments_of k turns) (view k s later) → ComesOn k turns s later
 
-    -- .. or where its rounds are as long as the longest of its controller's waits, or its session has ended
+    -- .. or its rounds are as long as the longest of its controller's waits, or its session has ended
     abbrev pub EachComesThroughInTime : Type 0
     EachComesThroughInTime = (n : Net H) (moves : List (NetMove H)) (turns : List (ℕ × ℕ)) (k : ℕ) (first s last : Site H)
-        → AreRounds n moves turns k first s last → IsInRange first.controller.session
+        → AreRounds n moves turns k first s last → s.controller.session.config.poll_between_orders ≡ false → IsInRange first.controller.session
         → let later = run answer_of after moves n in
         AreLate answer_of after (moments_of k turns) (view k s later) → (last.controller.session.state ≡ Closed) ⊎ ComesOn k turns s later

@@ -1,5 +1,5 @@
 -- Two stations on a line, an order that waits for each from the beginning, one more for the first, and rounds of both.
-use Rattle.std.specs.Prelude.{ℕ, List, [], ◌∷◌, None}
+use Rattle.std.specs.Prelude.{◌≡◌, ℕ, false, List, [], ◌∷◌, None}
 use Rattle.osdp_frame.specs.declared.check_kind.CheckKind.TheVariants.{Sum}
 use Rattle.osdp_msg.specs.ReplyFields.{pd_id_at}
 use Rattle.osdp_msg.specs.declared.command.Command.{Command}
@@ -50,6 +50,7 @@ module _ {H : Type 0} where
       pub site : Site H
       pub last : Site H
       pub rounds : AreRounds answer_of after (two_stations handler other) orders turns k first site last
+      pub in_a_row : site.controller.session.config.poll_between_orders ≡ false
       pub range : IsInRange first.controller.session
       pub due : AreDue answer_of after (moments_of k turns) (view k site (ordered handler other))
       pub late : AreLate answer_of after (moments_of k turns) (view k site (ordered handler other))

@@ -14,9 +14,9 @@ pub fn rounds_are_its_own<H: Handler>()
 }
 
 /// So in m rounds of its own, each with a tick that is due, m - 1 commands and events of its session are settled and reported, or all that were
-/// left. Its controller tells so over the rounds of all. This asks that its reader isn't busy, and that no COMSET to a device's address waits or is
-/// outstanding. With rounds that come as much later than the greatest moment seen as the longest of the controller's waits, that is so or its session
-/// has ended.
+/// left. Its controller tells so over the rounds of all. This asks that its orders go out one after the other, that its reader isn't busy, and that no
+/// COMSET to a device's address waits or is outstanding. With rounds that come as much later than the greatest moment seen as the longest of the
+/// controller's waits, that is so or its session has ended.
 pub fn each_comes_through<H: Handler>()
     ensures due { EachComesThrough H.answer_of H.after }
     ensures in_time { EachComesThroughInTime H.answer_of H.after }

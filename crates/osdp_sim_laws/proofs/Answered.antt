@@ -35,12 +35,12 @@ module _ {H : Type 0} (answer_of : H → Command → Answer) (after : H → Comm
       (each_append IsInSession steps (clear steps) (each_of IsInSession steps within) (tt, losses_within steps)) (rounds_within m wait))
 
   pub answer_recovers : Recovers answer_of after → AnswersHoldOnce answer_of after → AnswerRecovers answer_of after
-  answer_recovers recovers holds config handler steps m wait account is within same long none lasts =
+  answer_recovers recovers holds config handler steps m wait account is within same long plain none lasts =
       let all_steps = (steps ++ clear steps) ++ rounds m wait in
       let a = lists_of account in
       let come : All SetsNoAddress a.issued → a.ends ≡ [] → min (m - 1) (length a.issued + length a.queued) ≤ done a =
       subst (λ (b : Account). All SetsNoAddress b.issued → b.ends ≡ [] → min (m - 1) (length b.issued + length b.queued) ≤ done b) (sym is.ends.2)
-      (recovers config handler steps m wait (record { settings = is.ends.0; well = is.ends.1; fits = is.fits }) within same long) in
+      (recovers config handler steps m wait (record { settings = is.ends.0; well = is.ends.1; fits = is.fits }) within same long plain) in
       let some = come none lasts in
       record {
         some = some;

@@ -212,10 +212,10 @@ module _ {H : Type 0} (answer_of : H → Command → Answer) (after : H → Comm
 
   goes : OneLink answer_of after → clean.GoesInTurn answer_of after → (config : SimConfig) (handler : H) (orders : List SimStep) (n : ℕ)
       → IsRun answer_of after config handler (orders ++ clean_rounds n) → Each IsOrder orders → config.reader.address ≡ config.controller.address
-      → config.controller.quiet_wait ≤ 400 → config.controller.poll_interval ≤ 50
+      → config.controller.quiet_wait ≤ 400 → config.controller.poll_interval ≤ 50 → config.controller.poll_between_orders ≡ false
       → let a = (run answer_of after (orders ++ clean_rounds n) (set_up config handler)).account in
       Each SetsNoAddress a.issued → IsInTurn answer_of after config handler orders n a
-  goes given law config handler orders n is are same quiet poll none =
+  goes given law config handler orders n is are same quiet poll plain none =
       let l = first_link config handler in
       let start = set_up config handler in
       let more = clean_rounds n in
@@ -239,7 +239,7 @@ module _ {H : Type 0} (answer_of : H → Command → Answer) (after : H → Comm
       let on = clock_on 400 0 (omega arith) in
       let spaced = are_spaced n 50 opening longest (link.run answer_of after (progress.round opening) later) on.1 (round_in_time answer_of after 0 opening longest later on.0 in_time) in
       let moves = subst (λ list. MovesFit answer_of after list later) clean_moves (next_fit answer_of after given config handler orders more is) in
-      let found = law l ms opening 50 moments its.begins (each_all clean.IsOrder ms are_moves.0) its.fits same refl (omega (arith, quiet)) poll
+      let found = law l ms opening 50 moments its.begins (each_all clean.IsOrder ms are_moves.0) its.fits same refl (omega (arith, quiet)) poll plain
       (each_all SetsNoAddress later.controller.waiting none_before) spaced moves in
       let end = run answer_of after (orders ++ more) start in
       let whole = its_account answer_of after given config handler (orders ++ more) is in
@@ -278,12 +278,12 @@ module _ {H : Type 0} (answer_of : H → Command → Answer) (after : H → Comm
       (no_end end lasts (run_ended answer_of after given.told (orders ++ more) start is.well refl) one)
 
   pub goes_in_turn : OneLink answer_of after → clean.GoesInTurn answer_of after → GoesInTurn answer_of after
-  goes_in_turn given law config handler orders n (Ok account) is are settings same quiet poll none =
+  goes_in_turn given law config handler orders n (Ok account) is are settings same quiet poll plain none =
       subst (IsInTurn answer_of after config handler orders n) (sym is.ends.2)
-      (goes given law config handler orders n (record { settings = is.ends.0; well = is.ends.1; fits = is.fits }) (each_of IsOrder orders are) same quiet poll
+      (goes given law config handler orders n (record { settings = is.ends.0; well = is.ends.1; fits = is.fits }) (each_of IsOrder orders are) same quiet poll plain
       (each_of SetsNoAddress (run answer_of after (orders ++ clean_rounds n) (set_up config handler)).account.issued
       (subst (λ a. All SetsNoAddress a.issued) is.ends.2 none)))
-  goes_in_turn given law config handler orders n (Err fault) is are settings same quiet poll none =
+  goes_in_turn given law config handler orders n (Err fault) is are settings same quiet poll plain none =
       stops_for_memory config handler (orders ++ clean_rounds n)
       (each_append IsUnrefused orders (clean_rounds n) (orders_unrefused orders (each_of IsOrder orders are))
       (λ s. refl, (λ s. refl, (λ s. refl, rounds_unrefused n 50))))

@@ -6,6 +6,7 @@ use Rattle.osdp_link_laws.specs.Ahead.{ahead, count_ahead}
 use Rattle.osdp_link_laws.specs.Link as link
 use Rattle.osdp_link_laws.specs.Progress as progress
 use Rattle.osdp_link_laws.specs.Reports.{told_in}
+use Rattle.osdp_link_laws.proofs.Controllers.{stays_between}
 use Rattle.osdp_sim_laws.proofs.Accounts.{Added, added_both, all_added, and_then}
 use Rattle.osdp_sim_laws.proofs.Begun.{none_reopen, sessions_counted}
 use Rattle.osdp_sim_laws.proofs.Clearing.{AtMost, Cleared, clears, losses_within, steps_few}
@@ -233,7 +234,7 @@ module _ {H : Type 0} (answer_of : H → Command → Answer) (after : H → Comm
   -- ---- something comes through
 
   pub comes : OneLink answer_of after → progress.ComesThroughInTime answer_of after → progress.ForgetsNone answer_of after → StaysInRange → ComesThrough answer_of after
-  comes given in_time forgets ranges config handler steps m wait is within long clear none =
+  comes given in_time forgets ranges config handler steps m wait is within long plain clear none =
       let l = first_link config handler in
       let more = rounds m wait in
       let later = link_after config handler steps in
@@ -242,7 +243,7 @@ module _ {H : Type 0} (answer_of : H → Command → Answer) (after : H → Comm
       let timely = steps_in_time wait steps 0 l (omega arith) (omega arith, long) in
       let range : IsInRange l.controller.session = ranges.later (new_machine config.controller config.commands (room_for config.commands).bytes) (Begin 0 ∷ []) (ranges.new config.controller config.commands (room_for config.commands).bytes) in
       let found = in_time l (moves_of steps 0) (moments_of m wait clock) its.begins range its.fits (clear_link given config handler steps more is clear)
-      (are_late m wait clock later timely.0 timely.1) (rounds_fit given config handler steps m wait is) in
+      (stays_between answer_of after false (moves_of steps 0) l its.steady plain) (are_late m wait clock later timely.0 timely.1) (rounds_fit given config handler steps m wait is) in
       elim found [
         | inl closed ↦ absurd (
             let shut = ap is_closed closed in
@@ -271,7 +272,7 @@ module _ {H : Type 0} (answer_of : H → Command → Answer) (after : H → Comm
 
   pub recovers : OneLink answer_of after → progress.ComesThroughInTime answer_of after → progress.ForgetsNone answer_of after → StaysInRange → StayWhereTheyAre answer_of after
       → Recovers answer_of after
-  recovers given in_time forgets ranges stays config handler steps m wait is within same long none lasts =
+  recovers given in_time forgets ranges stays config handler steps m wait is within same long plain none lasts =
       let l = first_link config handler in
       let all_steps = steps ++ clear steps in
       let more = rounds m wait in
@@ -295,5 +296,5 @@ module _ {H : Type 0} (answer_of : H → Command → Answer) (after : H → Comm
         stays = each_all SetsNoAddress before.account.issued none_before;
       } in
       let all_within = each_all IsInSession all_steps (each_append IsInSession steps (clear steps) (each_of IsInSession steps within) (tt, losses_within steps)) in
-      let on = comes given in_time forgets ranges config handler all_steps m wait is all_within long is_clear lasts in
+      let on = comes given in_time forgets ranges config handler all_steps m wait is all_within long plain is_clear lasts in
       omega (arith, on)

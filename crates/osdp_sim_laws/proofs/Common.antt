@@ -9,6 +9,7 @@ pub use Rattle.osdp_frame.specs.Packet.{IsPacket, next_sequence, Packet}
 pub use Rattle.osdp_msg.specs.declared.command.Command.{Command}
 pub use Rattle.osdp_msg.specs.declared.event.Event.{Event}
 pub use Rattle.osdp_controller.specs.Machine.{is_due, Machine, new_machine}
+pub use Rattle.osdp_controller.proofs.Idling.{idle_way}
 pub use Rattle.osdp_controller.specs.Ticking.{begins, gives_up, sends_frame, stays, Ticked, ticks, ticks_in, tries_again}
 pub use Rattle.osdp_controller.specs.declared.fault.ControllerFault.{ControllerFault}
 pub use Rattle.osdp_controller.specs.declared.fault.ControllerFault.TheVariants.{Full}

@@ -1,8 +1,8 @@
 -- How many sessions the ledger of a link opens: no more than have begun.
-use Rattle.osdp_sim_laws.proofs.Common.{◌≡◌, ◌≤◌, ◌+◌, ℕ, Bool, true, false, List, [], ◌∷◌, ◌++◌, Option, Some, None, refl, ap, arith, Packet, Command, Event, ControllerFault, Session, State, Closed, Idle, Pausing, Quiet, Waiting, seen, hears, Heard, stays, Ticked, ticks, ticks_in, tries_again, begins as begins_exchange, gives_up, sends_frame, next_sequence, lacks_room, Answer, Begins, Delivered, Delivery, Link, Lost, Move, Repeated, after_move, IsSteady, told_by_front, leb, ltb, both, Each}
+use Rattle.osdp_sim_laws.proofs.Common.{◌≡◌, ◌≤◌, ◌+◌, ℕ, Bool, true, false, List, [], ◌∷◌, ◌++◌, Option, Some, None, refl, ap, arith, Packet, Command, Event, ControllerFault, Session, State, Closed, Idle, Pausing, Quiet, Waiting, seen, hears, Heard, stays, Ticked, ticks, ticks_in, tries_again, idle_way, begins as begins_exchange, gives_up, sends_frame, lacks_room, Answer, Begins, Delivered, Delivery, Link, Lost, Move, Repeated, after_move, IsSteady, told_by_front, leb, ltb, both, Each}
 use Rattle.osdp_controller.specs.Answers.{meaning_of}
 use Rattle.osdp_controller.specs.Machine as controllers
-use Rattle.osdp_controller.specs.declared.exchange.Exchange.TheVariants.{Opening, Polling}
+use Rattle.osdp_controller.specs.declared.exchange.Exchange.TheVariants.{Opening}
 use Rattle.osdp_controller.specs.declared.meaning.ReplyMeaning.{ReplyMeaning}
 use Rattle.osdp_controller_laws.proofs.Common.{numbered_in}
 use Rattle.osdp_controller_laws.proofs.Frames.{OfEach, either_frame, of_pause, of_wait}
@@ -78,10 +78,8 @@ tick_in_few Closed s waiting e = let same = ap awaits e in omega (arith, same)
 tick_in_few (Quiet until) s waiting e =
     let same = ap awaits e in
     both (OpensFew (Quiet until)) (leb until s.greatest) (begins_exchange Opening 0 s waiting) (stays s waiting) (omega arith) (omega (arith, same))
-tick_in_few (Idle due) s [] e =
-    let same = ap awaits e in
-    both (OpensFew (Idle due)) (leb due s.greatest) (begins_exchange Polling (next_sequence s.number) s []) (stays s []) (omega arith) (omega (arith, same))
-tick_in_few (Idle due) s (c ∷ rest) e = omega arith
+tick_in_few (Idle due) s waiting e =
+    let same = ap awaits e in idle_way (OpensFew (Idle due)) due s waiting (λ reached. omega arith) (λ ahead. omega (arith, same)) (λ c rest is. omega arith)
 tick_in_few (Waiting until k o) s waiting e =
     let same = ap awaits e in
     both (OpensFew (Waiting until k o)) (leb until s.greatest) (tries_again k o s waiting) (stays s waiting)

@@ -3,6 +3,7 @@ use Rattle.osdp_sim_laws.proofs.Common.{◌≡◌, ◌⊎◌, ◌≤◌, ℕ, ze
 use Rattle.osdp_link_laws.specs.Link as link
 use Rattle.osdp_link_laws.specs.Progress as progress
 use Rattle.osdp_link_laws.specs.Refusals.{KeepsReader}
+use Rattle.osdp_link_laws.proofs.Controllers.{stays_between}
 use Rattle.osdp_link_laws.proofs.Counting.{none_in_session}
 use Rattle.osdp_link_laws.proofs.Due.{closed_rests}
 use Rattle.osdp_link_laws.proofs.InTime.{late_due, rounds_closed, run_range}
@@ -125,9 +126,9 @@ module _ {H : Type 0} (answer_of : H → Command → Answer) (after : H → Comm
     -- steps that leave the link clear and at rest, and one round more
     one_more : progress.ForgetsNone answer_of after → progress.ComesThroughFromRest answer_of after → (config : SimConfig) (handler : H) (steps : List SimStep) (wait : ℕ)
         → IsRun answer_of after config handler (steps ++ rounds 1 wait) → Each IsInSession steps → longest_wait config.controller ≤ wait
-        → EndsOrRests (link_after answer_of after config handler steps) → let last = run answer_of after (steps ++ rounds 1 wait) (set_up config handler) in
+        → config.controller.poll_between_orders ≡ false → EndsOrRests (link_after answer_of after config handler steps) → let last = run answer_of after (steps ++ rounds 1 wait) (set_up config handler) in
         last.account.ends ≡ [] → BringsOneMore (run answer_of after steps (set_up config handler)).account last.account
-    one_more forgets from_rest config handler steps wait is within long found none =
+    one_more forgets from_rest config handler steps wait is within long plain found none =
         let l = first_link config handler in
         let ms : List (Move H) = moves_of steps 0 in
         let clock = clock_after steps 0 in
@@ -143,14 +144,14 @@ module _ {H : Type 0} (answer_of : H → Command → Answer) (after : H → Comm
               let range = run_range answer_of after ranges ms l its.fits (first_range config handler) in
               let late = are_late answer_of after 1 wait clock later timely.0 timely.1 in
               let due = comes now later.controller range (idle_lasts later.controller.session.state calm.1) late.0 in
-              let more = from_rest l ms (now ∷ []) its.begins its.fits calm.0 calm.1
+              let more = from_rest l ms (now ∷ []) its.begins its.fits calm.0 (stays_between answer_of after false ms l its.steady plain) calm.1
               (inl (none_in_session answer_of after ms l (each_of KeepsReader ms (keep_reader ms its.steady)))) (due, tt) (rounds_fit answer_of after given config handler steps 1 wait is) in
               let brought = rounds_bring answer_of after given config handler steps 1 wait is ranges forgets within none in
               omega (arith, more, brought.more, brought.all)
         ]
 
     pub each_round_brings_one_more : progress.ForgetsNone answer_of after → progress.ComesThroughFromRest answer_of after → EachRoundBringsOneMore answer_of after
-    each_round_brings_one_more forgets from_rest config handler steps m wait is within long quiet =
+    each_round_brings_one_more forgets from_rest config handler steps m wait is within long plain quiet =
         let before = steps ++ rounds (suc m) wait in
         let longer : steps ++ rounds (suc (suc m)) wait ≡ before ++ rounds 1 wait =
         ap (λ l. steps ++ l) (one_longer (suc m) wait) ∙ sym (append_assoc steps (rounds (suc m) wait) (rounds 1 wait)) in
@@ -158,5 +159,5 @@ module _ {H : Type 0} (answer_of : H → Command → Answer) (after : H → Comm
         let inside = each_append IsInSession steps (rounds (suc m) wait) (each_of IsInSession steps within) (rounds_within (suc m) wait) in
         subst (λ l. (run answer_of after l (set_up config handler)).account.ends ≡ []
         → BringsOneMore (run answer_of after before (set_up config handler)).account (run answer_of after l (set_up config handler)).account) (sym longer)
-        (one_more forgets from_rest config handler before wait whole inside long
+        (one_more forgets from_rest config handler before wait whole inside long plain
         (rests_at config handler steps m wait (run_first answer_of after config handler before (rounds 1 wait) whole) long quiet))

@@ -1,5 +1,5 @@
 -- Room for what waits, however long each message is.
-use Rattle.osdp_sim_laws.proofs.Common.{◌≡◌, ◌<◌, ◌≤◌, ◌+◌, ◌-◌, ◌*◌, ◌&&◌, ℕ, arith, Bool, true, false, ltb, leb, if◌then◌else◌, List, [], ◌∷◌, ◌++◌, length, drop, inl, inr, refl, sym, ap, ◌∙◌, le-leb, lt-ltb, ltb-true, leb_tells, length-append, next_sequence, most_data, Command, Event, Machine, Ticked, begins, gives_up, sends_frame, stays, ticks_in, tries_again, Session, State, Closed, Quiet, Idle, Waiting, Pausing, EventQueue, both, Each, HoldsAlong, SimStep, Issue, Queue}
+use Rattle.osdp_sim_laws.proofs.Common.{◌≡◌, ◌<◌, ◌≤◌, ◌+◌, ◌-◌, ◌*◌, ◌&&◌, ℕ, arith, Bool, true, false, ltb, leb, if◌then◌else◌, List, [], ◌∷◌, ◌++◌, length, drop, inl, inr, refl, sym, subst, ap, ◌∙◌, le-leb, lt-ltb, ltb-true, leb_tells, length-append, next_sequence, most_data, Command, Event, Machine, Ticked, begins, idle_way, gives_up, sends_frame, stays, ticks_in, tries_again, Session, State, Closed, Quiet, Idle, Waiting, Pausing, EventQueue, both, Each, HoldsAlong, SimStep, Issue, Queue}
 use Rattle.std.proofs.lemmas.Bool.{and_parts, not-false, not-true}
 use Rattle.std.specs.Option.{option_map_or}
 use Rattle.osdp_msg.specs.CommandTable.{CommandFits, command_code, command_counts_agree, command_data, command_fault, command_length_allowed}
@@ -8,7 +8,7 @@ use Rattle.osdp_msg.proofs.Commands.{commands}
 use Rattle.osdp_msg.proofs.Table.{bounded}
 use Rattle.osdp_controller.specs.Held.{on_its_way}
 use Rattle.osdp_controller.specs.Machine as controllers
-use Rattle.osdp_controller.specs.declared.exchange.Exchange.TheVariants.{Opening, Polling}
+use Rattle.osdp_controller.specs.declared.exchange.Exchange.TheVariants.{Asking, Opening}
 use Rattle.osdp_reader.specs.Queue as reader
 use Rattle.osdp_reader_laws.proofs.Places.{event_is_short}
 
@@ -147,9 +147,9 @@ as_many w = (omega arith, omega arith)
 pub tick_few : (state : State) (s : Session) (w : List Command) → Few w (ticks_in state s w)
 tick_few Closed s w = as_many w
 tick_few (Quiet until) s w = both (Few w) (leb until s.greatest) (begins Opening 0 s w) (stays s w) (as_many w) (as_many w)
-tick_few (Idle due) s [] =
-    both (Few []) (leb due s.greatest) (begins Polling (next_sequence s.number) s []) (stays s []) (as_many []) (as_many [])
-tick_few (Idle due) s (c ∷ w) = (omega arith, omega arith)
+tick_few (Idle due) s w =
+    idle_way (Few w) due s w (λ e. as_many w) (λ e. as_many w)
+    (λ c rest e. subst (λ ws. Few ws (begins (Asking c) (next_sequence s.number) s rest)) (sym e) (omega arith, omega arith))
 tick_few (Waiting until k o) s w =
     both (Few w) (leb until s.greatest) (tries_again k o s w) (stays s w)
     (both (Few w) (ltb k s.config.sends) (sends_frame (k + 1) o s w) (gives_up o s w) (as_many w) (as_many w)) (as_many w)

@@ -1,5 +1,5 @@
 -- Schedules without losses: what their accounts are, exactly.
-use Rattle.std.specs.Prelude.{◌≡◌, ◌≤◌, ℕ, ◌-◌, All, List, [], ◌++◌, length, take, Result, Ok, Err}
+use Rattle.std.specs.Prelude.{◌≡◌, ◌≤◌, ℕ, ◌-◌, false, All, List, [], ◌++◌, length, take, Result, Ok, Err}
 use Rattle.osdp_msg.specs.declared.command.Command.{Command}
 use Rattle.osdp_reader.specs.declared.handler.Answer.{Answer}
 use Rattle.osdp_link_laws.specs.OneHandler.{with_answers}
@@ -45,11 +45,11 @@ module _ {H : Type 0} (answer_of : H → Command → Answer) (after : H → Comm
   IsInTurnOrNoMemory config handler orders n (Err fault) = fault.cause ≡ NoMemory
 
   -- any orders, and then n rounds without losses, where the settings are in their ranges, both ends are at one address, the rounds are as
-  -- long as the controller's waits, and no COMSET to a device's address was issued
+  -- long as the controller's waits, orders go out one after the other, and no COMSET to a device's address was issued
   abbrev pub GoesInTurn : Type 0
   GoesInTurn = (config : SimConfig) (handler : H) (orders : List SimStep) (n : ℕ) (answer : Result declared.Account (Fault declared.Account))
       → IsAnswer answer_of after config handler (orders ++ clean n) answer → All IsOrder orders
       → AreSettings config → config.reader.address ≡ config.controller.address
-      → config.controller.quiet_wait ≤ 400 → config.controller.poll_interval ≤ 50
+      → config.controller.quiet_wait ≤ 400 → config.controller.poll_interval ≤ 50 → config.controller.poll_between_orders ≡ false
       → All SetsNoAddress (account_in answer).issued
       → IsInTurnOrNoMemory config handler orders n answer

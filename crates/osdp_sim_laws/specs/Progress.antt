@@ -59,21 +59,22 @@ module _ {H : Type 0} where
       pub fits : FitAlong answer_of after steps (set_up config handler)
 
     -- rounds as long as the longest of the controller's waits, after steps of one session that leave the link clear: something comes
-    -- through, where the session hasn't ended
+    -- through, where orders go out one after the other and the session hasn't ended
     abbrev pub ComesThrough : Type 0
     ComesThrough = (config : SimConfig) (handler : H) (steps : List SimStep) (m wait : ℕ) → IsRun config handler (steps ++ rounds m wait)
-        → All IsInSession steps → longest_wait config.controller ≤ wait
+        → All IsInSession steps → longest_wait config.controller ≤ wait → config.controller.poll_between_orders ≡ false
         → let before = run answer_of after steps (set_up config handler) in
         IsClear before
         → let last = run answer_of after (steps ++ rounds m wait) (set_up config handler) in
         last.account.ends ≡ [] → ComesOn m before.account last.account
 
     -- whatever the steps were: after them the line is cleared, and over m rounds something comes through, where both ends are at one
-    -- address, no COMSET to a device's address was issued and the session hasn't ended
+    -- address, orders go out one after the other, no COMSET to a device's address was issued and the session hasn't ended
     abbrev pub Recovers : Type 0
     Recovers = (config : SimConfig) (handler : H) (steps : List SimStep) (m wait : ℕ)
         → IsRun config handler ((steps ++ clear steps) ++ rounds m wait)
         → All IsInSession steps → config.reader.address ≡ config.controller.address → longest_wait config.controller ≤ wait
+        → config.controller.poll_between_orders ≡ false
         → let last = run answer_of after ((steps ++ clear steps) ++ rounds m wait) (set_up config handler) in
         All SetsNoAddress last.account.issued → last.account.ends ≡ []
         → min (m - 1) (length last.account.issued + length last.account.queued) ≤ done last.account
@@ -83,5 +84,6 @@ module _ {H : Type 0} where
     AnswerRecovers = (config : SimConfig) (handler : H) (steps : List SimStep) (m wait : ℕ) (account : declared.Account)
         → IsAnswer answer_of after config handler ((steps ++ clear steps) ++ rounds m wait) (Ok account)
         → All IsInSession steps → config.reader.address ≡ config.controller.address → longest_wait config.controller ≤ wait
+        → config.controller.poll_between_orders ≡ false
         → let a = lists_of account in
         All SetsNoAddress a.issued → a.ends ≡ [] → HasComeThrough answer_of after m config.reader handler a

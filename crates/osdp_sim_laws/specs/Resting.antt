@@ -44,10 +44,11 @@ module _ {H : Type 0} where
         → let last = run answer_of after (steps ++ rounds (suc m) wait) (set_up config handler) in
         last.account.ends ≡ [] → IsAtRest last
 
-    -- .. and each but the first brings one more than those before it had brought
+    -- .. and each but the first brings one more than those before it had brought, where orders go out one after the other
     abbrev pub EachRoundBringsOneMore : Type 0
     EachRoundBringsOneMore = (config : SimConfig) (handler : H) (steps : List SimStep) (m wait : ℕ)
         → IsRun answer_of after config handler (steps ++ rounds (suc (suc m)) wait) → All IsInSession steps → longest_wait config.controller ≤ wait
+        → config.controller.poll_between_orders ≡ false
         → IsClear (run answer_of after steps (set_up config handler))
         → let before = run answer_of after (steps ++ rounds (suc m) wait) (set_up config handler) in
         let last = run answer_of after (steps ++ rounds (suc (suc m)) wait) (set_up config handler) in

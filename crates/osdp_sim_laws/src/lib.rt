@@ -68,11 +68,11 @@ pub fn sessions_begin_by_reopens<H: Handler>()
 
 /// After steps of one session that leave nothing on the line, both ends at one address, the reader not busy and no COMSET to a device's
 /// address issued: over m rounds that lose nothing, each as long as the longest of the controller's waits or longer, m - 1 more commands
-/// and events, or all of them, are settled and reported, where the session hasn't ended.
+/// and events, or all of them, are settled and reported, where orders go out one after the other and the session hasn't ended.
 ///
 /// After any steps of one session it is so once the reader is ready and what is on the line is lost: over m such rounds m - 1 commands and events,
-/// or all of them, are settled and reported. This asks that both ends were at one address, that no COMSET to a device's address was issued, and that
-/// the session hasn't ended.
+/// or all of them, are settled and reported. This asks that both ends were at one address, that orders go out one after the other, that no COMSET to a
+/// device's address was issued, and that the session hasn't ended.
 ///
 /// So it is of the account that is answered where no step is refused and memory suffices. Where the rounds are more than its commands and
 /// events, each command issued is settled with the reader's own answer, and each event queued is reported.
@@ -90,7 +90,8 @@ pub fn schedule_comes_through<H: Handler>()
 
 /// Between the clearing of a line and the rounds after it, and between these: once what was on the line is lost no burst is on it. After steps of one
 /// session that leave nothing on the line, as `schedule_comes_through` asks, each round that loses nothing ends with no burst on the line and
-/// with the controller idle; each but the first brings one more command or event than those before it had, unless all are settled and reported.
+/// with the controller idle. Where orders go out one after the other, each but the first brings one more command or event than those before it had, unless
+/// all are settled and reported.
 pub fn rests_between_rounds<H: Handler>()
     ensures cleared { ClearsTheLine H.answer_of H.after }
     ensures rest { EachRoundRests H.answer_of H.after }
@@ -113,8 +114,8 @@ pub fn accepts_by_room<H: Handler>()
 
 /// Any orders and events, and then rounds without losses: the answer is out of memory, or an account of exactly what each round does, a
 /// command settled, the oldest first, with its own answer, and once all are settled an event reported, the oldest first. Premises:
-/// settings in their ranges, both ends at one address, `quiet_wait` at most 400, `poll_interval` at most 50, and no COMSET to a device's
-/// address issued.
+/// settings in their ranges, both ends at one address, `quiet_wait` at most 400, `poll_interval` at most 50, orders that go out one after the other, as they
+/// do by `ControllerConfig::new`, and no COMSET to a device's address issued.
 pub fn schedule_goes_in_turn<H: Handler>()
     ensures { GoesInTurn H.answer_of H.after }
 {

@@ -1,40 +1,26 @@
 -- In each call of a site the sessions that are due begin anew, whatever the other entries do.
-use Rattle.osdp_site.proofs.Common.{◌≡◌, ◌∙◌, ap, sym, subst, ℕ, zero, suc, ◌<◌, ◌≤◌, arith, Bool, true, false, List, [], ◌∷◌, length, Option, Some, None, refl, if◌then◌else◌, ◌≢◌, slice_get_within, option_map_or, Command, PanelState, after_submit, submit_refusal, Acted, Submitted, acts_at, begins_anew, begins_due, submits, submitted, unless_refused, PlaceState, due_of, is_due, is_online, Both, acts_first, place_of, put_back}
+use Rattle.osdp_site.proofs.Common.{◌≡◌, ◌∙◌, ap, sym, subst, ℕ, zero, suc, ◌<◌, ◌≤◌, arith, Bool, true, false, List, [], ◌∷◌, length, Option, Some, None, refl, if◌then◌else◌, ◌≢◌, slice_get_within, option_map_or, Command, BusState, after_submit_at, order_refusal_at, Acted, Submitted, acts_at, begins_anew, begins_due, submits, submitted, unless_refused, PlaceState, due_of, is_due, is_online, Both, acts_first, place_of, put_back}
 use Rattle.std.specs.Prelude.{nat_eq}
 use Rattle.std.proofs.lemmas.Bool.{eqb-true, eqb-false}
 use Rattle.osdp_bus.specs.declared.fault.BusFault.{BusFault}
 use Rattle.osdp_bus.specs.Buses.{device_of}
-use Rattle.osdp_bus.specs.Machine.{after_submit_at, entry_submits}
-use Rattle.osdp_orders.specs.declared.queue.Queue.{Queue}
-use Rattle.osdp_orders.specs.Orders.{after_submit_in, both, is_closed_in, queue_of, with_queue}
-use Rattle.osdp_orders.specs.Queues.{after_hold}
+use Rattle.osdp_bus.specs.Machine.{entry_submits}
 use Rattle.osdp_site.specs.Acting.{refreshes}
-use Rattle.osdp_site.specs.Beginning.{AllBeginAnew, HasBegunAnew, IsAwaited, IsClosed, LeavesOthers, held_back, in_controller}
-use Rattle.osdp_site.proofs.Beginning.{begins_so, changed_device, changed_queue, gone_with, nothing, set_elsewhere, follows}
+use Rattle.osdp_site.specs.Beginning.{AllBeginAnew, HasBegunAnew, IsAwaited, IsClosed, LeavesOthers, is_closed_in, waiting_in}
+use Rattle.osdp_site.proofs.Beginning.{begins_so, changed_device, nothing, set_elsewhere, follows}
 
 -- ---- what an entry does leaves the others
 
-submitted_by : (go : Bool) (entry : ℕ) (c : Command) (q : Queue) (b : PanelState)
-    → LeavesOthers entry b (if go then both (with_queue entry (record q { may_go = false }) b.orders) (after_submit_at entry c b.bus)
-    else both (with_queue entry (after_hold c q) b.orders) b.bus)
-submitted_by true entry c q b =
-    gone_with entry (record q { may_go = false }) (after_submit_at entry c b.bus) b (changed_device (device_of entry b.bus) entry (entry_submits c) b.bus b.orders)
-submitted_by false entry c q b = changed_queue entry (after_hold c q) b
-
-submitted_in : (o : Option Queue) (entry : ℕ) (c : Command) (b : PanelState) → LeavesOthers entry b (after_submit_in entry c o b)
-submitted_in None entry c b = changed_device (device_of entry b.bus) entry (entry_submits c) b.bus b.orders
-submitted_in (Some q) entry c b = submitted_by q.may_go entry c q b
-
-submitted_unless : (r : Option BusFault) (entry : ℕ) (b : PanelState) (more : Submitted) → LeavesOthers entry b more.panel → LeavesOthers entry b (unless_refused r b more).panel
+submitted_unless : (r : Option BusFault) (entry : ℕ) (b : BusState) (more : Submitted) → LeavesOthers entry b more.panel → LeavesOthers entry b (unless_refused r b more).panel
 submitted_unless (Some fault) entry b more left = nothing entry b
 submitted_unless None entry b more left = left
 
-submitted_all : (entry : ℕ) (cs : List Command) (b : PanelState) → LeavesOthers entry b (submits entry cs b).panel
+submitted_all : (entry : ℕ) (cs : List Command) (b : BusState) → LeavesOthers entry b (submits entry cs b).panel
 submitted_all entry [] b = nothing entry b
 submitted_all entry (c ∷ cs) b =
-    let after = after_submit entry c b in
-    submitted_unless (submit_refusal entry c b) entry b (submits entry cs after)
-    (follows entry b after (submits entry cs after).panel (submitted_in (queue_of entry b.orders) entry c b) (submitted_all entry cs after))
+    let after = after_submit_at entry c b in
+    submitted_unless (order_refusal_at entry c b) entry b (submits entry cs after)
+    (follows entry b after (submits entry cs after).panel (changed_device (device_of entry b) entry (entry_submits c) b) (submitted_all entry cs after))
 
 refreshed_if : (online : Bool) (entry : ℕ) (x : Acted) → LeavesOthers entry x.panel (if online then submitted x.place (submits entry (due_of x.place) x.panel) else x).panel
 refreshed_if true entry x = submitted_all entry (due_of x.place) x.panel
@@ -67,11 +53,10 @@ place_stays (Some p) entry other now x unlike =
 
 record IsUntouched (entry n now : ℕ) (x : Both) : Type 0 where
   place : place_of entry (acts_first n now x).site ≡ place_of entry x.site
-  device : device_of entry (acts_first n now x).panel.bus ≡ device_of entry x.panel.bus
-  queue : queue_of entry (acts_first n now x).panel.orders ≡ queue_of entry x.panel.orders
+  device : device_of entry (acts_first n now x).panel ≡ device_of entry x.panel
 
 untouched : (n entry now : ℕ) (x : Both) → n ≤ entry → IsUntouched entry n now x
-untouched zero entry now x before = record { place = refl; device = refl; queue = refl }
+untouched zero entry now x before = record { place = refl; device = refl }
 untouched (suc n) entry now x before =
     let y = acts_first n now x in
     let h = untouched n entry now x (omega arith) in
@@ -80,16 +65,12 @@ untouched (suc n) entry now x before =
     record {
       place = place_stays (place_of n y.site) n entry now y unlike ∙ h.place;
       device = left.devices entry unlike ∙ h.device;
-      queue = left.orders entry unlike ∙ h.queue;
     }
 
-still_begun : (entry n : ℕ) (b after : PanelState) → entry ≢ n → LeavesOthers n b after → HasBegunAnew entry b → HasBegunAnew entry after
+still_begun : (entry n : ℕ) (b after : BusState) → entry ≢ n → LeavesOthers n b after → HasBegunAnew entry b → HasBegunAnew entry after
 still_begun entry n b after unlike left h =
     let device = left.devices entry unlike in
-    record {
-      begun = ap is_closed_in device ∙ h.begun;
-      waits = record { controller = ap in_controller device ∙ h.waits.controller; held = ap held_back (left.orders entry unlike) ∙ h.waits.held };
-    }
+    record { begun = ap is_closed_in device ∙ h.begun; none_waits = ap waiting_in device ∙ h.none_waits }
 
 abbrev begun : ℕ → ℕ → Acted → Acted
 begun entry now x = record { place = record x.place { begins = None }; panel = begins_anew entry now x.panel }
@@ -123,10 +104,7 @@ begun_first (suc n) entry now x less awaited closed = by (nat_eq entry n) refl (
         let same : entry ≡ n = eqb-true entry n is in
         let h = untouched n entry now x (omega (arith, same)) in
         let there : place_of n y.site ≡ Some awaited.place = ap (λ k. place_of k y.site) (sym same) ∙ h.place ∙ awaited.there in
-        let still : IsClosed n y.panel = subst (λ k. IsClosed k y.panel) same (record {
-          closed = ap is_closed_in h.device ∙ closed.closed;
-          counted = omega (arith, closed.counted, ap (λ o. length (in_controller o)) h.device, ap (λ q. length (held_back q)) h.queue);
-        }) in
+        let still : IsClosed n y.panel = subst (λ k. IsClosed k y.panel) same (ap is_closed_in h.device ∙ closed) in
         subst (λ k. HasBegunAnew k (acts_first (suc n) now x).panel) (sym same)
         (begins_here (place_of n y.site) n now awaited.place y there awaited.due awaited.offline still)
     by false is before =

@@ -12,7 +12,8 @@ pub use Rattle.osdp_site.specs.Laws.{Acts, after_move, after_moves, Heeds, heeds
 pub use Rattle.osdp_site.specs.Places.{after_pause, after_wants, after_wants_of, changed_unless, due_of, goes_offline, goes_online, heeds, is_due, is_online, is_reached, is_refreshed, is_too_long, new_place, opens, PlaceState, room_refusal, wants_over, wants_refusal, wants_refusal_of, without}
 pub use Rattle.osdp_site.specs.Sites.{acts_first, Both, earlier, earliest_from, place_of, put_back, SiteState, wants_at, wants_refusal_at}
 pub use Rattle.osdp_msg.specs.declared.command.Command.{Command}
-pub use Rattle.osdp_orders.specs.Orders.{after_submit, PanelState, submit_refusal}
+pub use Rattle.osdp_bus.specs.Buses.{BusState}
+pub use Rattle.osdp_bus.specs.Machine.{after_submit_at, order_refusal_at}
 pub use Rattle.osdp_site.specs.declared.fault.SiteFault.{SiteFault}
 pub use Rattle.osdp_site.specs.States.{first_about, subject_of}
 pub use Rattle.osdp_controller.specs.Machine.{command_size}

@@ -1,23 +1,19 @@
 -- What is wanted fits into the panel's room, so it waits for nothing but room that other commands take.
-use Rattle.osdp_site.proofs.Common.{◌≡◌, ◌∙◌, ap, sym, subst, ℕ, zero, suc, ◌+◌, ◌≤◌, Bool, true, false, ◌&&◌, ◌||◌, List, [], ◌∷◌, length, Option, Some, None, refl, arith, if◌then◌else◌, is_some, min, nat_le, nat_lt, le-leb, leb-true, lt-ltb, ltb-false, slice_get, slice_set, option_map_or, All, All-drop, Command, PanelState, after_submit, submit_refusal, command_size, Submitted, submits, submitted, unless_refused, IsState, Move, StopsAt, WaitsForOthers, after_moves, refreshed, PlaceState, due_of, is_online, new_place}
-use Rattle.std.specs.Prelude.{◌-◌, ◌*◌, ◌^◌, option_map, unwrap_or}
+use Rattle.osdp_site.proofs.Common.{◌≡◌, ◌∙◌, ap, sym, subst, ℕ, ◌+◌, ◌≤◌, Bool, true, false, ◌&&◌, ◌||◌, List, [], ◌∷◌, length, Option, Some, None, refl, arith, if◌then◌else◌, is_some, nat_le, nat_lt, le-leb, leb-true, lt-ltb, ltb-false, slice_set, option_map_or, All, All-drop, Command, BusState, after_submit_at, order_refusal_at, command_size, Submitted, submits, submitted, unless_refused, IsState, Move, StopsAt, WaitsForOthers, after_moves, refreshed, PlaceState, due_of, is_online, new_place}
+use Rattle.std.specs.Prelude.{◌-◌, ◌*◌, option_map, unwrap_or}
 use Rattle.osdp_msg.specs.declared.command.Command.TheVariants as command
 use Rattle.osdp_msg.specs.Limits.{most_data}
-use Rattle.osdp_ring.specs.Ring.{fits_in, total}
 use Rattle.osdp_controller.specs.declared.fault.ControllerFault.TheVariants as controllers
 use Rattle.osdp_controller.specs.Held.{on_its_way}
 use Rattle.osdp_controller.specs.Machine.{Machine, bytes_kept, bytes_on_its_way, bytes_waiting}
 use Rattle.osdp_controller.specs.Machine.{has_room as machine_has_room}
 use Rattle.osdp_bus.specs.declared.entry.Entry.{Entry}
 use Rattle.osdp_bus.specs.declared.fault.BusFault.{BusFault}
-use Rattle.osdp_bus.specs.declared.fault.BusFault.TheVariants.{Full}
-use Rattle.osdp_bus.specs.Buses.{BusState, device_of}
-use Rattle.osdp_bus.specs.Machine.{after_submit_at, bus_fault, entry_submits, order_refusal_at, order_refusal_of}
-use Rattle.osdp_orders.specs.declared.queue.Queue.{Queue}
-use Rattle.osdp_orders.specs.Orders.{both, held_count, queue_of, submit_refusal_in, after_submit_in, waiting_in, with_held, with_queue}
-use Rattle.osdp_orders.specs.Queues.{after_hold, has_place, hold_refusal, kept_as}
+use Rattle.osdp_bus.specs.Buses.{device_of}
+use Rattle.osdp_bus.specs.Machine.{bus_fault, entry_submits, order_refusal_of}
 use Rattle.osdp_site.specs.Acting.{refreshes, waiting_at}
-use Rattle.osdp_site.specs.Laws.{has_room, has_room_held, has_room_in, is_on_its_way, takes_room}
+use Rattle.osdp_site.specs.Laws.{has_room, has_room_in, is_on_its_way, takes_room}
+use Rattle.osdp_site.proofs.Beginning.{set_here}
 use Rattle.osdp_site.proofs.States.{IsWanted, all_wanted}
 use Rattle.osdp_site.proofs.Submitting.{is_taken, wanted_refreshed}
 
@@ -45,11 +41,6 @@ second_of_neither false b is = is
 
 -- ---- room stays
 
-set_here : {X : Type 0} (xs : List X) (i : ℕ) (x y : X) → slice_get xs i ≡ Some x → slice_get (slice_set xs i y) i ≡ Some y
-set_here [] i x y at = absurd cc
-set_here (z ∷ xs) zero x y at = refl
-set_here (z ∷ xs) (suc i) x y at = set_here xs i x y at
-
 changed_if : (o : Option Entry) (entry : ℕ) (change : Entry → Entry) (b : BusState) → device_of entry b ≡ o
     → device_of entry (option_map_or (λ d. record b { devices = record b.devices { entries = slice_set b.devices.entries entry (change d) } }) o b) ≡ option_map change o
 changed_if None entry change b at = at
@@ -63,56 +54,22 @@ device_room : (entry bytes : ℕ) (c : Command) (b : BusState) → has_room_in b
 device_room entry bytes c b =
     ap (has_room_in bytes) (changed_if (device_of entry b) entry (entry_submits c) b refl) ∙ submitted_in bytes c (device_of entry b)
 
--- an order goes to its controller, or is held back
-abbrev goes_or_waits : Bool → ℕ → Command → Queue → PanelState → PanelState
-goes_or_waits go entry c q b =
-    if go then both (with_queue entry (record q { may_go = false }) b.orders) (after_submit_at entry c b.bus)
-    else both (with_queue entry (after_hold c q) b.orders) b.bus
-
-room_by_queue : (go : Bool) (entry bytes : ℕ) (c : Command) (q : Queue) (b : PanelState) → queue_of entry b.orders ≡ Some q
-    → has_room_in bytes (device_of entry b.bus) ≡ true → has_room_held bytes (Some q) ≡ true → has_room entry bytes (goes_or_waits go entry c q b) ≡ true
-room_by_queue true entry bytes c q b at device held =
-    both_true (has_room_in bytes (device_of entry (after_submit_at entry c b.bus))) (has_room_held bytes (slice_get (slice_set b.orders.queues entry (record q { may_go = false })) entry))
-    (device_room entry bytes c b.bus ∙ device)
-    (ap (has_room_held bytes) (set_here b.orders.queues entry q (record q { may_go = false }) at) ∙ held)
-room_by_queue false entry bytes c q b at device held =
-    both_true (has_room_in bytes (device_of entry b.bus)) (has_room_held bytes (slice_get (slice_set b.orders.queues entry (after_hold c q)) entry))
-    device
-    (ap (has_room_held bytes) (set_here b.orders.queues entry q (after_hold c q) at) ∙ held)
-
-room_in : (o : Option Queue) (entry bytes : ℕ) (c : Command) (b : PanelState) → queue_of entry b.orders ≡ o
-    → has_room_in bytes (device_of entry b.bus) ≡ true → has_room_held bytes o ≡ true → has_room entry bytes (after_submit_in entry c o b) ≡ true
-room_in None entry bytes c b at device held =
-    both_true (has_room_in bytes (device_of entry (after_submit_at entry c b.bus))) (has_room_held bytes (queue_of entry b.orders))
-    (device_room entry bytes c b.bus ∙ device) (ap (has_room_held bytes) at)
-room_in (Some q) entry bytes c b at device held = room_by_queue q.may_go entry bytes c q b at device held
-
-room_after : (entry bytes : ℕ) (c : Command) (b : PanelState) → has_room entry bytes b ≡ true → has_room entry bytes (after_submit entry c b) ≡ true
-room_after entry bytes c b room =
-    let o = queue_of entry b.orders in
-    let p = has_room_in bytes (device_of entry b.bus) in
-    room_in o entry bytes c b refl (first_of_both p (has_room_held bytes o) room) (second_of_both p (has_room_held bytes o) room)
-
-room_unless : (r : Option BusFault) (entry bytes : ℕ) (b : PanelState) (more : Submitted) → has_room entry bytes b ≡ true → has_room entry bytes more.panel ≡ true
+room_unless : (r : Option BusFault) (entry bytes : ℕ) (b : BusState) (more : Submitted) → has_room entry bytes b ≡ true → has_room entry bytes more.panel ≡ true
     → has_room entry bytes (unless_refused r b more).panel ≡ true
 room_unless (Some fault) entry bytes b more room after = room
 room_unless None entry bytes b more room after = after
 
-room_over : (entry bytes : ℕ) (cs : List Command) (b : PanelState) → has_room entry bytes b ≡ true → has_room entry bytes (submits entry cs b).panel ≡ true
+room_over : (entry bytes : ℕ) (cs : List Command) (b : BusState) → has_room entry bytes b ≡ true → has_room entry bytes (submits entry cs b).panel ≡ true
 room_over entry bytes [] b room = room
 room_over entry bytes (c ∷ cs) b room =
-    let after = after_submit entry c b in
-    room_unless (submit_refusal entry c b) entry bytes b (submits entry cs after) room (room_over entry bytes cs after (room_after entry bytes c b room))
+    let after = after_submit_at entry c b in
+    room_unless (order_refusal_at entry c b) entry bytes b (submits entry cs after) room (room_over entry bytes cs after (device_room entry bytes c b ∙ room))
 
 -- ---- room that no other command takes
 
 none_waits : (cs : List Command) → length cs ≡ 0 → bytes_waiting cs ≡ 0
 none_waits [] is = refl
 none_waits (c ∷ cs) is = absurd (omega arith)
-
-none_held : (ss : List (List ℕ)) → length ss ≡ 0 → total ss ≡ 0
-none_held [] is = refl
-none_held (s ∷ ss) is = absurd (omega arith)
 
 none_goes : (all : Bool) (o : Option Command) → is_some o ≡ false → (if all then 0 else option_map_or command_size o 0) ≡ 0
 none_goes true o is = refl
@@ -129,16 +86,6 @@ machine_takes c bytes m short places room waits goes =
     (lt-ltb (length m.waiting) m.capacity (omega (arith, waits, places)))
     (le-leb (command_size c) (m.room - bytes_kept m) (omega (arith, short, room, kept)))
 
-queue_takes : (c : Command) (bytes before : ℕ) (q : Queue) → command_size c ≤ bytes → 1 ≤ q.held.capacity → bytes ≤ q.held.room → before ≡ 0 → length q.held.items ≡ 0
-    → has_place before c q ≡ true
-queue_takes c bytes before q short places room waits holds =
-    let none : total q.held.items ≡ 0 = none_held q.held.items holds in
-    both_true (nat_lt (before + length q.held.items) q.held.capacity) (fits_in (length (kept_as c)) q.held)
-    (lt-ltb (before + length q.held.items) q.held.capacity (omega (arith, waits, holds, places)))
-    (both_true (nat_lt (length q.held.items) q.held.capacity) (nat_le (length (kept_as c)) (q.held.room - total q.held.items))
-    (lt-ltb (length q.held.items) q.held.capacity (omega (arith, holds, places)))
-    (le-leb (length (kept_as c)) (q.held.room - total q.held.items) (let size : length (kept_as c) ≤ bytes = short in omega (arith, size, room, none))))
-
 -- a state is neither a POLL nor a COMSET
 device_takes : (c : Command) (entry : ℕ) (d : Entry) (b : BusState) → IsState c → machine_has_room c d.controller ≡ true → order_refusal_of entry c (Some d) b ≡ None
 device_takes (command.Output records) entry d b is room = ap (λ t. option_map bus_fault (if t then None else Some controllers.Full)) room
@@ -146,22 +93,6 @@ device_takes (command.Led records) entry d b is room = ap (λ t. option_map bus_
 device_takes (command.Buzzer buzzer) entry d b is room = ap (λ t. option_map bus_fault (if t then None else Some controllers.Full)) room
 device_takes (command.Text text) entry d b is room = ap (λ t. option_map bus_fault (if t then None else Some controllers.Full)) room
 device_takes _ entry d b is room = absurd cc
-
-held_takes : (c : Command) (before : ℕ) (q : Queue) → IsState c → has_place before c q ≡ true → hold_refusal before c q ≡ None
-held_takes (command.Output records) before q is place = ap (λ t. if t then None else Some Full) place
-held_takes (command.Led records) before q is place = ap (λ t. if t then None else Some Full) place
-held_takes (command.Buzzer buzzer) before q is place = ap (λ t. if t then None else Some Full) place
-held_takes (command.Text text) before q is place = ap (λ t. if t then None else Some Full) place
-held_takes _ before q is place = absurd cc
-
--- how many wait, of a device and in a queue
-abbrev waits_in : Option Entry → Option Queue → ℕ
-waits_in o q = unwrap_or (with_held (option_map (λ d. length d.controller.waiting) o) (held_count q)) 0
-
-neither_waits : (a b : ℕ) → nat_lt 0 (min (a + b) (2 ^ 64 - 1)) ≡ false → (a ≡ 0) × (b ≡ 0)
-neither_waits a b is =
-    let none : min (a + b) (2 ^ 64 - 1) ≤ 0 = ltb-false 0 (min (a + b) (2 ^ 64 - 1)) is in
-    ((omega (arith, none)), (omega (arith, none)))
 
 device_is_free : (bytes : ℕ) (c : Command) (d : Entry) → command_size c ≤ bytes → has_room_in bytes (Some d) ≡ true → length d.controller.waiting ≡ 0
     → is_on_its_way (Some d) ≡ false → machine_has_room c d.controller ≡ true
@@ -171,54 +102,33 @@ device_is_free bytes c d short room waits goes =
     let within = leb-true bytes m.room (second_of_both (nat_le 1 m.capacity) (nat_le bytes m.room) room) in
     machine_takes c bytes m short places within waits goes
 
-queue_is_free : (bytes : ℕ) (c : Command) (before : ℕ) (q : Queue) → command_size c ≤ bytes → has_room_held bytes (Some q) ≡ true → before ≡ 0 → length q.held.items ≡ 0
-    → has_place before c q ≡ true
-queue_is_free bytes c before q short room waits holds =
-    let places = leb-true 1 q.held.capacity (first_of_both (nat_le 1 q.held.capacity) (nat_le bytes q.held.room) room) in
-    let within = leb-true bytes q.held.room (second_of_both (nat_le 1 q.held.capacity) (nat_le bytes q.held.room) room) in
-    queue_takes c bytes before q short places within waits holds
+takes_in : (o : Option Entry) (entry bytes : ℕ) (c : Command) (b : BusState) → device_of entry b ≡ o → IsWanted bytes c → has_room_in bytes o ≡ true
+    → nat_lt 0 (unwrap_or (option_map (λ d. length d.controller.waiting) o) 0) ≡ false → is_on_its_way o ≡ false → order_refusal_at entry c b ≡ None
+takes_in None entry bytes c b at is room waits goes = absurd cc
+takes_in (Some d) entry bytes c b at is room waits goes =
+    let none = ltb-false 0 (length d.controller.waiting) waits in
+    ap (λ o. order_refusal_of entry c o b) at ∙ device_takes c entry d b is.state (device_is_free bytes c d is.fits room (omega (arith, none)) goes)
 
-either : (go : Bool) (a b : Option BusFault) → a ≡ None → b ≡ None → (if go then a else b) ≡ None
-either true a b is also = is
-either false a b is also = also
-
--- the device and the queue of an entry, as they are
-takes_in : (o : Option Entry) (q : Option Queue) (entry bytes : ℕ) (c : Command) (b : PanelState) → device_of entry b.bus ≡ o → IsWanted bytes c
-    → has_room_in bytes o ≡ true → has_room_held bytes q ≡ true → nat_lt 0 (waits_in o q) ≡ false → is_on_its_way o ≡ false → submit_refusal_in entry c q b.bus ≡ None
-takes_in None q entry bytes c b at is room held waits goes = absurd cc
-takes_in (Some d) None entry bytes c b at is room held waits goes =
-    let free = (neither_waits (length d.controller.waiting) 0 waits).0 in
-    ap (λ o. order_refusal_of entry c o b.bus) at ∙ device_takes c entry d b.bus is.state (device_is_free bytes c d is.fits room free goes)
-takes_in (Some d) (Some q) entry bytes c b at is room held waits goes =
-    let free = neither_waits (length d.controller.waiting) (length q.held.items) waits in
-    let before : waiting_in entry b.bus ≡ 0 = ap (λ o. option_map_or (λ e. length e.controller.waiting) o 0) at ∙ free.0 in
-    either (q.may_go) (order_refusal_at entry c b.bus) (hold_refusal (waiting_in entry b.bus) c q)
-    (ap (λ o. order_refusal_of entry c o b.bus) at ∙ device_takes c entry d b.bus is.state (device_is_free bytes c d is.fits room free.0 goes))
-    (held_takes c (waiting_in entry b.bus) q is.state (queue_is_free bytes c (waiting_in entry b.bus) q is.fits held before free.1))
-
-free_takes : (entry bytes : ℕ) (c : Command) (b : PanelState) → IsWanted bytes c → has_room entry bytes b ≡ true → takes_room entry b ≡ false → submit_refusal entry c b ≡ None
+free_takes : (entry bytes : ℕ) (c : Command) (b : BusState) → IsWanted bytes c → has_room entry bytes b ≡ true → takes_room entry b ≡ false → order_refusal_at entry c b ≡ None
 free_takes entry bytes c b is room free =
-    let o = device_of entry b.bus in
-    let q = queue_of entry b.orders in
-    takes_in o q entry bytes c b refl is
-    (first_of_both (has_room_in bytes o) (has_room_held bytes q) room)
-    (second_of_both (has_room_in bytes o) (has_room_held bytes q) room)
+    let o = device_of entry b in
+    takes_in o entry bytes c b refl is room
     (first_of_neither (nat_lt 0 (waiting_at entry b)) (is_on_its_way o) free)
     (second_of_neither (nat_lt 0 (waiting_at entry b)) (is_on_its_way o) free)
 
 -- ---- what is left
 
 -- where the panel refuses the first of what is left, it takes it all the same: nothing is left
-none_left : (cs : List Command) (entry bytes : ℕ) (b : PanelState) → All (IsWanted bytes) cs → StopsAt entry cs b → has_room entry bytes b ≡ true → takes_room entry b ≡ false → cs ≡ []
+none_left : (cs : List Command) (entry bytes : ℕ) (b : BusState) → All (IsWanted bytes) cs → StopsAt entry cs b → has_room entry bytes b ≡ true → takes_room entry b ≡ false → cs ≡ []
 none_left [] entry bytes b all stops room free = refl
 none_left (c ∷ cs) entry bytes b all stops room free = absurd (stops (free_takes entry bytes c b (all 0 c (omega arith)) room free))
 
-after_if_room : (online : Bool) (entry bytes : ℕ) (b : PanelState) (p : PlaceState) → has_room entry bytes b ≡ true
+after_if_room : (online : Bool) (entry bytes : ℕ) (b : BusState) (p : PlaceState) → has_room entry bytes b ≡ true
     → has_room entry bytes (if online then submitted p (submits entry (due_of p) b) else record { place = p; panel = b }).panel ≡ true
 after_if_room true entry bytes b p room = room_over entry bytes (due_of p) b room
 after_if_room false entry bytes b p room = room
 
-waits : (entry bytes : ℕ) (b : PanelState) (p : PlaceState) → All (IsWanted bytes) p.wanted → WaitsForOthers entry bytes b p
+waits : (entry bytes : ℕ) (b : BusState) (p : PlaceState) → All (IsWanted bytes) p.wanted → WaitsForOthers entry bytes b p
 waits entry bytes b p all = record {
   fits = λ k d less. (all k d less).fits;
   submitted = λ room online free.
@@ -228,6 +138,6 @@ waits entry bytes b p all = record {
       none_left (due_of after) entry bytes (refreshes entry (record { place = p; panel = b })).panel left (taken.stops online) (after_if_room (is_online p.presence) entry bytes b p room) free;
 }
 
-pub waits_for_others : (entry pause room bytes now : ℕ) (ms : List Move) (b : PanelState) → WaitsForOthers entry bytes b (after_moves entry pause ms (new_place room bytes now))
+pub waits_for_others : (entry pause room bytes now : ℕ) (ms : List Move) (b : BusState) → WaitsForOthers entry bytes b (after_moves entry pause ms (new_place room bytes now))
 waits_for_others entry pause room bytes now ms b =
     waits entry bytes b (after_moves entry pause ms (new_place room bytes now)) (all_wanted entry pause room bytes now ms)

@@ -1,5 +1,5 @@
 -- A session is given the latest of what is wanted.
-use Rattle.osdp_site.proofs.Common.{◌≡◌, ◌∙◌, ap, sym, subst, ℕ, suc, ◌≤◌, arith, Bool, true, false, List, [], ◌∷◌, ◌++◌, length, drop, Option, Some, None, refl, Result, Ok, Err, if◌then◌else◌, Command, PanelState, Report, SiteFault, after_submit, submit_refusal, Submitted, Acted, begins_due, submits, submitted, unless_refused, Acts, Heeds, Move, Wants, after_move, after_moves, is_opening, PlaceState, after_wants_of, changed_unless, due_of, heeds, is_due, is_online, new_place, opens, wants_over, wants_refusal_of, first_about, subject_of}
+use Rattle.osdp_site.proofs.Common.{◌≡◌, ◌∙◌, ap, sym, subst, ℕ, suc, ◌≤◌, arith, Bool, true, false, List, [], ◌∷◌, ◌++◌, length, drop, Option, Some, None, refl, Result, Ok, Err, if◌then◌else◌, Command, BusState, Report, SiteFault, after_submit_at, order_refusal_at, Submitted, Acted, begins_due, submits, submitted, unless_refused, Acts, Heeds, Move, Wants, after_move, after_moves, is_opening, PlaceState, after_wants_of, changed_unless, due_of, heeds, is_due, is_online, new_place, opens, wants_over, wants_refusal_of, first_about, subject_of}
 use Rattle.std.proofs.Common.{append_assoc, append-nil, length-append, length-drop}
 use Rattle.osdp_controller.specs.declared.report.Report.TheVariants as report
 use Rattle.osdp_bus.specs.declared.fault.BusFault.{BusFault}
@@ -60,14 +60,14 @@ given_heeds pause now (report.Lost cause command) gs xs p none given =
     as_before gs xs p (heeds pause now (report.Lost cause command) p) refl refl given
 given_heeds pause now _ gs xs p none given = as_before gs xs p p refl refl given
 
-count_unless : (o : Option BusFault) (b : PanelState) (more : Submitted) (n : ℕ) → more.count ≤ n → (unless_refused o b more).count ≤ suc n
+count_unless : (o : Option BusFault) (b : BusState) (more : Submitted) (n : ℕ) → more.count ≤ n → (unless_refused o b more).count ≤ suc n
 count_unless (Some fault) b more n within = omega arith
 count_unless None b more n within = omega arith
 
-count_within : (entry : ℕ) (cs : List Command) (b : PanelState) → (submits entry cs b).count ≤ length cs
+count_within : (entry : ℕ) (cs : List Command) (b : BusState) → (submits entry cs b).count ≤ length cs
 count_within entry [] b = omega arith
 count_within entry (c ∷ cs) b =
-    count_unless (submit_refusal entry c b) b (submits entry cs (after_submit entry c b)) (length cs) (count_within entry cs (after_submit entry c b))
+    count_unless (order_refusal_at entry c b) b (submits entry cs (after_submit_at entry c b)) (length cs) (count_within entry cs (after_submit_at entry c b))
 
 done_if : (online : Bool) (entry : ℕ) (x : Acted) → x.place.done ≤ length x.place.wanted
     → (if online then submitted x.place (submits entry (due_of x.place) x.panel) else x).place.done ≤ length x.place.wanted
@@ -75,7 +75,7 @@ done_if true entry x within =
     omega (arith, within, count_within entry (due_of x.place) x.panel, length-drop x.place.done x.place.wanted)
 done_if false entry x within = within
 
-given_acts : (entry pause now : ℕ) (b : PanelState) (gs xs : List Command) (p : PlaceState) → IsGiven gs xs p
+given_acts : (entry pause now : ℕ) (b : BusState) (gs xs : List Command) (p : PlaceState) → IsGiven gs xs p
     → IsGiven (gs ++ given_in entry (Acts b now) p) (xs ++ []) (after_move entry pause (Acts b now) p)
 given_acts entry pause now b gs xs p given =
     let x : Acted = record { place = p; panel = b } in

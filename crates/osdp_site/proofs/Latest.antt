@@ -1,5 +1,5 @@
 -- What is wanted is the latest that was said of each.
-use Rattle.osdp_site.proofs.Common.{◌≡◌, ◌∙◌, ap, sym, subst, inl, inr, ℕ, zero, suc, ◌+◌, ◌≤◌, arith, Bool, true, false, ◌||◌, List, [], ◌∷◌, ◌++◌, length, drop, Option, Some, None, refl, Result, Ok, Err, if◌then◌else◌, list_any, Command, PanelState, Report, SiteFault, Acted, begins_anew, begins_due, submits, submitted, Acts, Heeds, Move, Wants, after_move, after_moves, PlaceState, after_wants_of, changed_unless, due_of, heeds, is_due, is_online, new_place, wants_over, wants_refusal_of, without, first_about, subject_of}
+use Rattle.osdp_site.proofs.Common.{◌≡◌, ◌∙◌, ap, sym, subst, inl, inr, ℕ, zero, suc, ◌+◌, ◌≤◌, arith, Bool, true, false, ◌||◌, List, [], ◌∷◌, ◌++◌, length, drop, Option, Some, None, refl, Result, Ok, Err, if◌then◌else◌, list_any, Command, BusState, Report, SiteFault, Acted, begins_anew, begins_due, submits, submitted, Acts, Heeds, Move, Wants, after_move, after_moves, PlaceState, after_wants_of, changed_unless, due_of, heeds, is_due, is_online, new_place, wants_over, wants_refusal_of, without, first_about, subject_of}
 use Rattle.std.specs.Prelude.{◌-◌, ◌==◌, ◌&&◌, nat_lt, option_map}
 use Rattle.std.proofs.Common.{append_assoc, append-nil}
 use Rattle.std.proofs.lemmas.Bool.{eq-eqb, eqb-true, ltb-false, ltb-true}
@@ -401,7 +401,7 @@ wanted_if : (online : Bool) (entry : ℕ) (x : Acted) → (if online then submit
 wanted_if true entry x = refl
 wanted_if false entry x = refl
 
-pub acted : (entry pause now : ℕ) (b : PanelState) (p : PlaceState) → (after_move entry pause (Acts b now) p).wanted ≡ p.wanted
+pub acted : (entry pause now : ℕ) (b : BusState) (p : PlaceState) → (after_move entry pause (Acts b now) p).wanted ≡ p.wanted
 acted entry pause now b p =
     let x : Acted = record { place = p; panel = b } in
     let y = begins_due entry now x in

@@ -9,3 +9,4 @@ pub mod Latest
 pub mod Given
 pub mod Beginning
 pub mod Acting
+mod Stepping

@@ -1,5 +1,5 @@
 -- All that is wanted are states that fit into the panel's room, whatever is called.
-use Rattle.osdp_site.proofs.Common.{◌≡◌, ap, ℕ, zero, suc, ◌≤◌, arith, Bool, true, false, List, [], ◌∷◌, take, drop, Option, Some, None, refl, Result, Ok, Err, if◌then◌else◌, is_ok, nat_lt, ltb-false, remove, All, All-append, All-drop, All-nil, All-take, Command, PanelState, Report, SiteFault, Acted, acts_at, begins_anew, begins_due, submits, submitted, Acts, Heeds, IsState, Move, Wants, after_move, after_moves, PlaceState, after_wants_of, changed_unless, due_of, heeds, is_due, is_online, is_too_long, new_place, room_refusal, wants_over, wants_refusal_of, without, first_about, subject_of, command_size}
+use Rattle.osdp_site.proofs.Common.{◌≡◌, ap, ℕ, zero, suc, ◌≤◌, arith, Bool, true, false, List, [], ◌∷◌, take, drop, Option, Some, None, refl, Result, Ok, Err, if◌then◌else◌, is_ok, nat_lt, ltb-false, remove, All, All-append, All-drop, All-nil, All-take, Command, BusState, Report, SiteFault, Acted, acts_at, begins_anew, begins_due, submits, submitted, Acts, Heeds, IsState, Move, Wants, after_move, after_moves, PlaceState, after_wants_of, changed_unless, due_of, heeds, is_due, is_online, is_too_long, new_place, room_refusal, wants_over, wants_refusal_of, without, first_about, subject_of, command_size}
 use Rattle.osdp_controller.specs.declared.report.Report.TheVariants as report
 use Rattle.osdp_site.specs.declared.fault.SiteFault.TheVariants.{TooLong}
 use Rattle.osdp_site.specs.declared.subject.Subject.{Subject}
@@ -62,7 +62,7 @@ refreshed_if : (online : Bool) (entry : ℕ) (x : Acted) (bytes : ℕ) → Wanti
 refreshed_if true entry x bytes w = record { limit = w.limit; all = w.all }
 refreshed_if false entry x bytes w = w
 
-after_acts : (entry now : ℕ) (b : PanelState) (bytes : ℕ) (p : PlaceState) → Wanting bytes p → Wanting bytes (acts_at entry now (record { place = p; panel = b })).place
+after_acts : (entry now : ℕ) (b : BusState) (bytes : ℕ) (p : PlaceState) → Wanting bytes p → Wanting bytes (acts_at entry now (record { place = p; panel = b })).place
 after_acts entry now b bytes p w =
     let x : Acted = record { place = p; panel = b } in
     let y = begins_due entry now x in

@@ -1,40 +1,45 @@
 -- What a site does with its panel: sessions that are due begin, and what is wanted is submitted.
-use Rattle.std.specs.Prelude.{ℕ, zero, suc, ◌+◌, if◌then◌else◌, List, [], ◌∷◌, Option, Some, None, unwrap_or}
+use Rattle.std.specs.Prelude.{ℕ, zero, suc, ◌+◌, if◌then◌else◌, List, [], ◌∷◌, length, Option, Some, None, option_map, unwrap_or}
 use Rattle.osdp_msg.specs.declared.command.Command.{Command}
 use Rattle.osdp_bus.specs.declared.fault.BusFault.{BusFault}
-use Rattle.osdp_orders.specs.Orders.{PanelState, after_begin, after_submit, after_withdraw, submit_refusal, waiting}
+use Rattle.osdp_bus.specs.Buses.{BusState, device_of}
+use Rattle.osdp_bus.specs.Machine.{after_begin_at, after_submit_at, after_withdraw_at, begin_refusal_at, changed_unless, order_refusal_at}
 use Rattle.osdp_site.specs.Places.{PlaceState, due_of, is_due, is_online}
 
 -- how many commands wait
-abbrev pub waiting_at : ℕ → PanelState → ℕ
-waiting_at entry b = unwrap_or (waiting entry b) 0
+abbrev pub waiting_at : ℕ → BusState → ℕ
+waiting_at entry b = unwrap_or (option_map (λ d. length d.controller.waiting) (device_of entry b)) 0
 
 -- so many are taken back, the longest waiting first
-abbrev pub withdraws : ℕ → ℕ → PanelState → PanelState
+abbrev pub withdraws : ℕ → ℕ → BusState → BusState
 withdraws entry zero b = b
-withdraws entry (suc n) b = after_withdraw entry (withdraws entry n b)
+withdraws entry (suc n) b = after_withdraw_at entry (withdraws entry n b)
 
--- the orders that wait are stale, and are taken back; then the session begins, where none has
-abbrev pub begins_anew : ℕ → ℕ → PanelState → PanelState
-begins_anew entry now b = after_begin entry now (withdraws entry (waiting_at entry b) b)
+-- all that wait
+abbrev pub emptied : ℕ → BusState → BusState
+emptied entry b = withdraws entry (waiting_at entry b) b
+
+-- a session begins, where none has; the orders that wait are stale, and are taken back then
+abbrev pub begins_anew : ℕ → ℕ → BusState → BusState
+begins_anew entry now b = changed_unless (begin_refusal_at entry b) b (emptied entry (after_begin_at entry now b))
 
 -- how many of some commands the panel takes, and the panel after that; from the first that it refuses on the others are left for later
 pub record Submitted : Type 0 where
   pub count : ℕ
-  pub panel : PanelState
+  pub panel : BusState
 
-abbrev pub unless_refused : Option BusFault → PanelState → Submitted → Submitted
+abbrev pub unless_refused : Option BusFault → BusState → Submitted → Submitted
 unless_refused (Some fault) b more = record { count = 0; panel = b }
 unless_refused None b more = record more { count = suc more.count }
 
-abbrev pub submits : ℕ → List Command → PanelState → Submitted
+abbrev pub submits : ℕ → List Command → BusState → Submitted
 submits entry [] b = record { count = 0; panel = b }
-submits entry (c ∷ cs) b = unless_refused (submit_refusal entry c b) b (submits entry cs (after_submit entry c b))
+submits entry (c ∷ cs) b = unless_refused (order_refusal_at entry c b) b (submits entry cs (after_submit_at entry c b))
 
 -- an entry, and the panel
 pub record Acted : Type 0 where
   pub place : PlaceState
-  pub panel : PanelState
+  pub panel : BusState
 
 abbrev pub submitted : PlaceState → Submitted → Acted
 submitted p s = record { place = record p { done = p.done + s.count }; panel = s.panel }

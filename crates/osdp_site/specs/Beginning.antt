@@ -1,48 +1,41 @@
 -- What a session that begins takes back: all that was ordered before it and has not gone out.
-use Rattle.std.specs.Prelude.{◌≡◌, ◌≢◌, ℕ, ◌+◌, ◌<◌, ◌^◌, true, false, List, [], length, Option, Some, None}
+use Rattle.std.specs.Prelude.{◌≡◌, ◌≢◌, ℕ, Bool, true, false, List, [], Option, Some, None}
 use Rattle.osdp_msg.specs.declared.command.Command.{Command}
 use Rattle.osdp_bus.specs.declared.entry.Entry.{Entry}
-use Rattle.osdp_bus.specs.Buses.{device_of}
-use Rattle.osdp_orders.specs.declared.queue.Queue.{Queue}
-use Rattle.osdp_orders.specs.Orders.{PanelState, is_closed_in, queue_of}
+use Rattle.osdp_bus.specs.Buses.{BusState, device_of}
+use Rattle.osdp_controller.specs.States.{is_closed}
 use Rattle.osdp_site.specs.Acting.{acts_at, begins_anew, refreshes}
 use Rattle.osdp_site.specs.Places.{PlaceState, is_due, is_online}
 use Rattle.osdp_site.specs.Sites.{Both, acts, place_of}
 
--- the orders of an entry that wait: those in its controller, and the bytes of those that are held back for POLLs
-abbrev pub in_controller : Option Entry → List Command
-in_controller None = []
-in_controller (Some d) = d.controller.waiting
+-- the orders of an entry that wait
+abbrev pub waiting_in : Option Entry → List Command
+waiting_in None = []
+waiting_in (Some d) = d.controller.waiting
 
-abbrev pub held_back : Option Queue → List (List ℕ)
-held_back None = []
-held_back (Some q) = q.held.items
+-- an entry has a device without a session
+abbrev pub is_closed_in : Option Entry → Bool
+is_closed_in None = false
+is_closed_in (Some d) = is_closed d.controller.session.state
 
-pub record NothingWaits (entry : ℕ) (b : PanelState) : Type 0 where
-  pub controller : in_controller (device_of entry b.bus) ≡ []
-  pub held : held_back (queue_of entry b.orders) ≡ []
-
--- an entry has a device without a session, and so many of its orders wait as 64 bits count
-pub record IsClosed (entry : ℕ) (b : PanelState) : Type 0 where
-  pub closed : is_closed_in (device_of entry b.bus) ≡ true
-  pub counted : length (in_controller (device_of entry b.bus)) + length (held_back (queue_of entry b.orders)) < 2 ^ 64
+abbrev pub IsClosed : ℕ → BusState → Type 0
+IsClosed entry b = is_closed_in (device_of entry b) ≡ true
 
 -- its session has begun, and nothing that was ordered before waits for it
-pub record HasBegunAnew (entry : ℕ) (b : PanelState) : Type 0 where
-  pub begun : is_closed_in (device_of entry b.bus) ≡ false
-  pub waits : NothingWaits entry b
+pub record HasBegunAnew (entry : ℕ) (b : BusState) : Type 0 where
+  pub begun : is_closed_in (device_of entry b) ≡ false
+  pub none_waits : waiting_in (device_of entry b) ≡ []
 
 -- of all other entries nothing changes, and no report comes or goes: so of an order that is taken back nothing is told
-pub record LeavesOthers (entry : ℕ) (b after : PanelState) : Type 0 where
-  pub devices : (other : ℕ) → other ≢ entry → device_of other after.bus ≡ device_of other b.bus
-  pub orders : (other : ℕ) → other ≢ entry → queue_of other after.orders ≡ queue_of other b.orders
-  pub report : after.bus.devices.report ≡ b.bus.devices.report
-  pub remembered : after.bus.remembered ≡ b.bus.remembered
+pub record LeavesOthers (entry : ℕ) (b after : BusState) : Type 0 where
+  pub devices : (other : ℕ) → other ≢ entry → device_of other after ≡ device_of other b
+  pub report : after.devices.report ≡ b.devices.report
+  pub remembered : after.remembered ≡ b.remembered
 
 -- a session begins anew where there is none. Where one stands nothing is taken back, and nothing where none is due
-pub record BeginsAnew (entry now : ℕ) (b : PanelState) : Type 0 where
+pub record BeginsAnew (entry now : ℕ) (b : BusState) : Type 0 where
   pub anew : IsClosed entry b → HasBegunAnew entry (begins_anew entry now b)
-  pub stays : is_closed_in (device_of entry b.bus) ≡ false → begins_anew entry now b ≡ b
+  pub stays : is_closed_in (device_of entry b) ≡ false → begins_anew entry now b ≡ b
   pub others : LeavesOthers entry b (begins_anew entry now b)
   pub undue : (p : PlaceState) → is_due now p ≡ false → acts_at entry now (record { place = p; panel = b }) ≡ refreshes entry (record { place = p; panel = b })
 

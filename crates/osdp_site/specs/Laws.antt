@@ -2,10 +2,9 @@
 use Rattle.std.specs.Prelude.{◌≡◌, ◌≢◌, ℕ, ◌+◌, ◌-◌, ◌≤◌, Bool, true, false, ◌&&◌, ◌||◌, nat_le, nat_lt, min, ◌^◌, if◌then◌else◌, List, [], ◌∷◌, ◌++◌, take, Option, Some, None, is_ok, is_some}
 use Rattle.std.specs.List.{All, list_any}
 use Rattle.osdp_msg.specs.declared.command.Command.{Command}
-use Rattle.osdp_orders.specs.Orders.{PanelState, after_submit, queue_of, submit_refusal}
-use Rattle.osdp_orders.specs.declared.queue.Queue.{Queue}
 use Rattle.osdp_bus.specs.declared.entry.Entry.{Entry}
-use Rattle.osdp_bus.specs.Buses.{device_of}
+use Rattle.osdp_bus.specs.Buses.{BusState, device_of}
+use Rattle.osdp_bus.specs.Machine.{after_submit_at, order_refusal_at}
 use Rattle.osdp_controller.specs.declared.report.Report.{Report}
 use Rattle.osdp_controller.specs.declared.report.Report.TheVariants as report
 use Rattle.osdp_controller.specs.Held.{on_its_way}
@@ -19,39 +18,39 @@ use Rattle.osdp_site.specs.States.{subject_of}
 -- ---- what is submitted
 
 -- what is submitted where an entry acts over a panel
-abbrev pub sent : ℕ → PanelState → PlaceState → List Command
+abbrev pub sent : ℕ → BusState → PlaceState → List Command
 sent entry b p = if is_online p.presence then take (submits entry (due_of p) b).count (due_of p) else []
 
-abbrev pub refreshed : ℕ → PanelState → PlaceState → PlaceState
+abbrev pub refreshed : ℕ → BusState → PlaceState → PlaceState
 refreshed entry b p = (refreshes entry (record { place = p; panel = b })).place
 
 -- the same again and again, over whatever panel each time
-abbrev pub sent_over : ℕ → List PanelState → PlaceState → List Command
+abbrev pub sent_over : ℕ → List BusState → PlaceState → List Command
 sent_over entry [] p = []
 sent_over entry (b ∷ bs) p = sent entry b p ++ sent_over entry bs (refreshed entry b p)
 
-abbrev pub refreshed_over : ℕ → List PanelState → PlaceState → PlaceState
+abbrev pub refreshed_over : ℕ → List BusState → PlaceState → PlaceState
 refreshed_over entry [] p = p
 refreshed_over entry (b ∷ bs) p = refreshed_over entry bs (refreshed entry b p)
 
 -- once a session has opened, each state that is wanted is submitted once, in the order in which they were wanted; what isn't yet is due. Where the site says
 -- that it is done, all were submitted
-pub record SubmittedOnce (entry now : ℕ) (bs : List PanelState) (p : PlaceState) : Type 0 where
+pub record SubmittedOnce (entry now : ℕ) (bs : List BusState) (p : PlaceState) : Type 0 where
   pub order : sent_over entry bs (opens now p) ++ due_of (refreshed_over entry bs (opens now p)) ≡ p.wanted
   pub done : is_refreshed (refreshed_over entry bs (opens now p)) ≡ true → sent_over entry bs (opens now p) ≡ p.wanted
 
 -- a panel takes some commands, one after the other, and refuses none
-abbrev pub Takes : ℕ → List Command → PanelState → PanelState → Type 0
+abbrev pub Takes : ℕ → List Command → BusState → BusState → Type 0
 Takes entry [] b after = after ≡ b
-Takes entry (c ∷ cs) b after = (submit_refusal entry c b ≡ None) × Takes entry cs (after_submit entry c b) after
+Takes entry (c ∷ cs) b after = (order_refusal_at entry c b ≡ None) × Takes entry cs (after_submit_at entry c b) after
 
 -- nothing is left, or the panel refuses the first of what is
-abbrev pub StopsAt : ℕ → List Command → PanelState → Type 0
+abbrev pub StopsAt : ℕ → List Command → BusState → Type 0
 StopsAt entry [] b = Unit {0}
-StopsAt entry (c ∷ cs) b = submit_refusal entry c b ≢ None
+StopsAt entry (c ∷ cs) b = order_refusal_at entry c b ≢ None
 
 -- where a device is online, the panel takes what is submitted, and nothing else; it stops where the panel refuses something. Where it is offline nothing changes
-pub record IsTaken (entry : ℕ) (b : PanelState) (p : PlaceState) : Type 0 where
+pub record IsTaken (entry : ℕ) (b : BusState) (p : PlaceState) : Type 0 where
   pub takes : Takes entry (sent entry b p) b (refreshes entry (record { place = p; panel = b })).panel
   pub stops : is_online p.presence ≡ true → StopsAt entry (due_of (refreshed entry b p)) (refreshes entry (record { place = p; panel = b })).panel
   pub wanted : (refreshed entry b p).wanted ≡ p.wanted
@@ -62,7 +61,7 @@ pub record IsTaken (entry : ℕ) (b : PanelState) (p : PlaceState) : Type 0 wher
 pub data Move : Type 0 where
   Wants : Command → Move
   Heeds : Report → ℕ → Move
-  Acts : PanelState → ℕ → Move
+  Acts : BusState → ℕ → Move
 
 -- the entry after it, where the number of the entry and the pause of the site are these
 abbrev pub after_move : ℕ → ℕ → Move → PlaceState → PlaceState
@@ -85,24 +84,19 @@ abbrev pub has_room_in : ℕ → Option Entry → Bool
 has_room_in bytes None = false
 has_room_in bytes (Some d) = nat_le 1 d.controller.capacity && nat_le bytes d.controller.room
 
--- .. also of the orders that are held back for POLLs, where they are
-abbrev pub has_room_held : ℕ → Option Queue → Bool
-has_room_held bytes None = true
-has_room_held bytes (Some q) = nat_le 1 q.held.capacity && nat_le bytes q.held.room
-
-abbrev pub has_room : ℕ → ℕ → PanelState → Bool
-has_room entry bytes b = has_room_in bytes (device_of entry b.bus) && has_room_held bytes (queue_of entry b.orders)
+abbrev pub has_room : ℕ → ℕ → BusState → Bool
+has_room entry bytes b = has_room_in bytes (device_of entry b)
 
 -- commands of an entry take room: some wait, or one is on its way
 abbrev pub is_on_its_way : Option Entry → Bool
 is_on_its_way None = false
 is_on_its_way (Some d) = is_some (on_its_way d.controller.session.state)
 
-abbrev pub takes_room : ℕ → PanelState → Bool
-takes_room entry b = nat_lt 0 (waiting_at entry b) || is_on_its_way (device_of entry b.bus)
+abbrev pub takes_room : ℕ → BusState → Bool
+takes_room entry b = nat_lt 0 (waiting_at entry b) || is_on_its_way (device_of entry b)
 
 -- each state that is wanted fits. Where the device is online, and after it has acted no command of it takes room in the panel, each was submitted
-pub record WaitsForOthers (entry bytes : ℕ) (b : PanelState) (p : PlaceState) : Type 0 where
+pub record WaitsForOthers (entry bytes : ℕ) (b : BusState) (p : PlaceState) : Type 0 where
   pub fits : All (λ c. command_size c ≤ bytes) p.wanted
   pub submitted : has_room entry bytes b ≡ true → is_online p.presence ≡ true
       → takes_room entry (refreshes entry (record { place = p; panel = b })).panel ≡ false → due_of (refreshed entry b p) ≡ []

@@ -2,7 +2,7 @@
 use Rattle.std.specs.Prelude.{ℕ, zero, suc, min, List, [], ◌∷◌, length, replicate, Option, Some, None, slice_get, slice_set}
 use Rattle.std.specs.Option.{option_map_or}
 use Rattle.osdp_msg.specs.declared.command.Command.{Command}
-use Rattle.osdp_orders.specs.Orders.{PanelState}
+use Rattle.osdp_bus.specs.Buses.{BusState}
 use Rattle.osdp_controller.specs.declared.report.Report.{Report}
 use Rattle.osdp_site.specs.declared.fault.SiteFault.{SiteFault}
 use Rattle.osdp_site.specs.declared.fault.SiteFault.TheVariants.{NoEntry}
@@ -45,7 +45,7 @@ told_at entry now r s = option_map_or (told_of s.pause now r) (place_of entry s)
 -- a site, and its panel
 pub record Both : Type 0 where
   pub site : SiteState
-  pub panel : PanelState
+  pub panel : BusState
 
 abbrev pub put_back : ℕ → SiteState → Acted → Both
 put_back entry s x = record { site = record s { places = slice_set s.places entry x.place }; panel = x.panel }

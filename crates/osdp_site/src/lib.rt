@@ -1,20 +1,21 @@
-//! Above a panel: when sessions begin, which devices are online since when, and states that a device gets again whose session opens anew. Makers of panels write
+//! Above a bus: when sessions begin, which devices are online since when, and states that a device gets again whose session opens anew. Makers of panels write
 //! these each time.
 //!
-//! A site stands beside a panel with the same entries. Its program says once how an LED, an output, a buzzer or a text is to be (`Site::wants`), hands on each
+//! A site stands beside a bus with the same entries. Its program says once how an LED, an output, a buzzer or a text is to be (`Site::wants`), hands on each
 //! report (`Site::heed`), and calls `Site::act` in each turn. It begins the sessions that are due, and submits what is wanted and not submitted yet.
 //!
 //! ```text
-//! let mut site = Site::new(alloc, panel.entries(), SiteConfig::new(config.room), clock.now())?; // `config` is that of the panel
+//! let mut site = Site::new(alloc, bus.entries(), SiteConfig::new(config.room), clock.now())?; // `config` is that of the bus
 //! site.wants(door, &red)?;
 //! loop {
-//!     .. waits for bytes, at most until the earlier of panel.next_deadline() and site.next_deadline() ..
-//!     site.act(&mut panel, now);
-//!     if let Some(unsent) = panel.turn(bytes, now, &mut turn) { .. it goes out .. }
-//!     for part in [&turn.heard, &turn.ticked] {
-//!         let Some((entry, report)) = part.report.read() else { continue };
+//!     .. waits for bytes, at most until the earlier of bus.next_deadline() and site.next_deadline() ..
+//!     site.act(&mut bus, now);
+//!     bus.on_bytes(bytes, now);
+//!     if let Some((entry, report)) = bus.report() {
 //!         if let Some(presence) = site.heed(entry, &report, now) { .. it is online or offline from now on .. }
 //!     }
+//!     bus.settle();
+//!     if bus.tick(now, &mut burst) { .. it goes out .. }
 //! }
 //! ```
 //!
@@ -30,6 +31,8 @@ mod site;
 mod subject;
 
 pub use fault::SiteFault;
-pub use osdp_panel::{Command, EntryNumber, Panel, Report, Room};
+pub use osdp_bus::{Bus, EntryNumber};
+pub use osdp_controller::Report;
+pub use osdp_msg::{Command, Room};
 pub use place::Presence;
 pub use site::{Site, SiteConfig};

@@ -3,13 +3,14 @@
 ghost use Rattle.std.specs.Prelude.{◌≡◌, IfErr, IfOk};
 ghost use Rattle.osdp_site.specs.declared.fault.SiteFault.TheVariants.{NoMemory};
 ghost use Rattle.osdp_controller.specs.Machine.{command_size};
-ghost use Rattle.osdp_site.specs.Acting.{acts_at, begins_anew, submits, submitted};
+ghost use Rattle.osdp_site.specs.Acting.{acts_at, begins_anew, emptied, submits, submitted};
 ghost use Rattle.osdp_site.specs.Places.{after_wants, change_of, changed_unless, due_of, goes_offline, goes_online, heeds, is_due, is_online, is_refreshed, new_place, unless_refused, wants_refusal};
 
 use crate::fault::SiteFault;
 use crate::subject::Subject;
-use osdp_msg::{KeptCommand, Spelling};
-use osdp_panel::{Command, EntryNumber, Panel, Report};
+use osdp_bus::{Bus, EntryNumber};
+use osdp_controller::Report;
+use osdp_msg::{Command, KeptCommand, Spelling};
 use std::alloc::Global;
 use std::marker::Model;
 
@@ -55,14 +56,22 @@ fn size_of(command: &Command<'_>) -> usize
     spelling.len()
 }
 
-/// The orders that wait for a device are taken back, and its session begins, where none has.
-fn begin_anew(panel: &mut Panel, entry: EntryNumber, now: u64)
+/// The session of a device begins, where none has. The orders that wait are stale, and are taken back then.
+fn begin_anew(panel: &mut Bus, entry: EntryNumber, now: u64)
     ensures { panel.new ≡ begins_anew entry now panel.old }
+{
+    if panel.begin(entry, now).is_ok() {
+        take_all_back(panel, entry);
+    }
+}
+
+/// The orders that wait for a device are taken back.
+fn take_all_back(panel: &mut Bus, entry: EntryNumber)
+    ensures { panel.new ≡ emptied entry panel.old }
 {
     for _ in 0..panel.waiting(entry).unwrap_or(0) {
         let _ = panel.withdraw(entry);
     }
-    let _ = panel.begin(entry, now);
 }
 
 impl Presence {
@@ -193,7 +202,7 @@ impl Place {
     }
 
     /// What is wanted and not submitted yet goes to the panel, up to the first that it refuses.
-    fn refresh(&mut self, panel: &mut Panel, entry: EntryNumber)
+    fn refresh(&mut self, panel: &mut Bus, entry: EntryNumber)
         ensures place { self.new ≡ (submitted self.old (submits entry (due_of self.old) panel.old)).place }
         ensures panel { panel.new ≡ (submits entry (due_of self.old) panel.old).panel }
     {
@@ -206,7 +215,7 @@ impl Place {
     }
 
     /// Begins a session that is due, and submits what is wanted to a device that is online.
-    pub(crate) fn act(&mut self, panel: &mut Panel, entry: EntryNumber, now: u64)
+    pub(crate) fn act(&mut self, panel: &mut Bus, entry: EntryNumber, now: u64)
         ensures place { self.new ≡ (acts_at entry now (record { place = self.old; panel = panel.old })).place }
         ensures panel { panel.new ≡ (acts_at entry now (record { place = self.old; panel = panel.old })).panel }
     {

@@ -7,7 +7,9 @@ ghost use Rattle.osdp_site.specs.Sites.{acts, earlier, heeds_at, new_site, next_
 
 use crate::fault::SiteFault;
 use crate::place::{Place, Presence};
-use osdp_panel::{Command, EntryNumber, Panel, Report, Room};
+use osdp_bus::{Bus, EntryNumber};
+use osdp_controller::Report;
+use osdp_msg::{Command, Room};
 use std::alloc::Global;
 use std::marker::Model;
 
@@ -124,7 +126,7 @@ impl Site {
     /// before. Then what is wanted of each device that is online, and wasn't submitted since its session opened, goes to the panel in the order in which it was
     /// wanted. What the panel refuses, as where its queue is full, and what comes after it is left for the next call. That waits for room that other commands
     /// take, since each state fits into the panel's room (`laws::states_wait_for_others`).
-    pub fn act(&mut self, panel: &mut Panel, now: u64)
+    pub fn act(&mut self, panel: &mut Bus, now: u64)
         ensures site { self.new ≡ (acts now (record { site = self.old; panel = panel.old })).site }
         ensures panel { panel.new ≡ (acts now (record { site = self.old; panel = panel.old })).panel }
     {

@@ -4,8 +4,7 @@ ghost use Rattle.std.specs.Prelude.{◌≡◌, ◌≤◌, ◌+◌, ◌<◌, ◌^
 ghost use Rattle.osdp_site.specs.States.{buzzer_subject, first_about, is_about, is_same, led_subject, only, output_subject, subject_of, text_subject};
 
 use crate::fault::SiteFault;
-use osdp_msg::{KeptCommand, Record, Records};
-use osdp_panel::{Buzzer, Command, LedRecord, OutputRecord, Text};
+use osdp_msg::{Buzzer, Command, KeptCommand, LedRecord, OutputRecord, Record, Records, Text};
 
 /// What a state is of. There is one state of each at a time.
 #[derive(Clone, Copy, Debug, PartialEq, Eq)]

@@ -1,17 +1,17 @@
 //! What is refused; what comes to the panel, and when; and what is told.
 
-use osdp_panel::{
-    Address, BusConfig, CheckKind, Command, EntryNumber, LostCause, Panel, PdId, Report, Room,
-    Spelling,
-};
+use osdp_bus::{Bus, BusConfig, EntryNumber};
+use osdp_controller::{LostCause, Report};
+use osdp_frame::{Address, CheckKind};
+use osdp_msg::{Command, PdId, Room, Spelling};
 use osdp_site::{Presence, Site, SiteConfig, SiteFault};
 use std::alloc::Global;
 
 const DOOR: EntryNumber = 0;
 
 /// A panel with one device, and this room for its commands.
-fn new_panel(alloc: Global, room: Room) -> Option<Panel> {
-    let mut panel = Panel::new(alloc, BusConfig::new(CheckKind::Crc, room)).ok()?;
+fn new_panel(alloc: Global, room: Room) -> Option<Bus> {
+    let mut panel = Bus::new(alloc, BusConfig::new(CheckKind::Crc, room)).ok()?;
     panel.add(Address::new(5)?).ok()?;
     Some(panel)
 }
@@ -44,7 +44,7 @@ fn wants(site: &mut Site, entry: EntryNumber, text: &str) -> Result<(), SiteFaul
 }
 
 /// A site of one entry with room for so many states, and a panel that has room for as many commands.
-fn with_room(alloc: Global, states: usize) -> Option<(Site, Panel)> {
+fn with_room(alloc: Global, states: usize) -> Option<(Site, Bus)> {
     let commands = Room::of(16);
     let config = SiteConfig {
         pause: 300,

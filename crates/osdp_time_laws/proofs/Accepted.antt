@@ -97,7 +97,7 @@ accepted_orders_go_out late command calls m a =
     let holds : is_outstanding s.state ≡ true → Holds late (s.greatest + w) c sends.0 (Unit {0}) is_outstanding refl calls s =
     λ on. (on_from s.greatest w, λ so. (refl, phase_now late sends.0 calls c s.greatest s.state a.machine.session.state a.timely on sends.1)) in
     let last : (after_calls calls k).session.greatest ≤ end =
-    orders late end c sends.0 sends.1 (before + 1) calls k a.lasts a.in_time (
+    orders late end c sends.0 sends.1 a.in_a_row (before + 1) calls k a.lasts a.in_time (
       begins_in s.greatest k.session.greatest (before * (w + late)) w late moment,
       λ so j left. let place : before ≡ j = one_place before j left in record {
         config = ap (λ (x : Session). x.config) same;

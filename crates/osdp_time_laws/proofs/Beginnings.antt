@@ -1,5 +1,5 @@
 -- What an exchange, and a session, may take from its beginning on.
-use Rattle.osdp_time_laws.proofs.Common.{◌≡◌, ◌∙◌, ◌⊎◌, ap, sym, subst, inl, inr, ℕ, zero, suc, ◌+◌, ◌*◌, ◌≤◌, Bool, true, ◌&&◌, ◌==◌, List, [], ◌∷◌, refl, arith, All, is_some, nat_le, nat_lt, add_comm, suc-mul, eqb-true, next_sequence, Command, ControllerConfig, Opening, Polling, Asking, Session, State, Closed, Quiet, Idle, Waiting, Pausing, IsMachine, IsState, Machine, after_begin, changed_unless, is_outstanding, refused_unless_closed, sent_in, later, seen, is_closed, Ticked, begins, gives_up, sends_frame, stays, ticks_in, tries_again, either_way, Call, Begin, Tick, after_call, after_calls, KeepsTime, Stays, ExchangesEnd, GoesOn, IsNotBusy, LastsAtMost, OpeningsEnd, is_opening, is_quiet}
+use Rattle.osdp_time_laws.proofs.Common.{◌≡◌, ◌∙◌, ◌⊎◌, ap, sym, subst, inl, inr, ℕ, zero, suc, ◌+◌, ◌*◌, ◌≤◌, Bool, true, ◌&&◌, ◌==◌, List, [], ◌∷◌, refl, arith, All, is_some, nat_le, nat_lt, add_comm, suc-mul, eqb-true, next_sequence, Command, ControllerConfig, Opening, Polling, Asking, Session, State, Closed, Quiet, Idle, Waiting, Pausing, IsMachine, IsState, Machine, after_begin, changed_unless, is_outstanding, refused_unless_closed, sent_in, later, seen, is_closed, Ticked, begins, gives_up, sends_frame, stays, ticks_in, tries_again, either_way, idle_way, Call, Begin, Tick, after_call, after_calls, KeepsTime, Stays, ExchangesEnd, GoesOn, IsNotBusy, LastsAtMost, OpeningsEnd, is_opening, is_quiet}
 use Rattle.osdp_controller.specs.declared.exchange.Exchange.{Exchange}
 use Rattle.osdp_time_laws.specs.Bounds.{exchange_time, opening_time, round_time}
 use Rattle.osdp_time_laws.proofs.Duties.{due_anew}
@@ -81,10 +81,9 @@ begun_tick late more q calls Closed s w few is = λ h. cc
 begun_tick late more q calls (Quiet until) s w few is =
     either_way (Begun late more q calls s) (nat_le until s.greatest) (begins Opening 0 s w) (stays s w)
     (λ b. begun_new late more q calls Opening 0 s w few) (λ b h. cc)
-begun_tick late more q calls (Idle due) s (command ∷ w) few is = begun_new late more q calls (Asking command) (next_sequence s.number) s w few
-begun_tick late more q calls (Idle due) s [] few is =
-    either_way (Begun late more q calls s) (nat_le due s.greatest) (begins Polling (next_sequence s.number) s []) (stays s [])
-    (λ b. begun_new late more q calls Polling (next_sequence s.number) s [] few) (λ b h. cc)
+begun_tick late more q calls (Idle due) s w few is =
+    idle_way (Begun late more q calls s) due s w (λ b. begun_new late more q calls Polling (next_sequence s.number) s w few) (λ b h. cc)
+    (λ command rest has. begun_new late more q calls (Asking command) (next_sequence s.number) s rest few)
 begun_tick late more q calls (Waiting until sends o) s w few is =
     either_way (Begun late more q calls s) (nat_le until s.greatest) (tries_again sends o s w) (stays s w)
     (λ b. either_way (Begun late more q calls s) (nat_lt sends s.config.sends) (sends_frame (sends + 1) o s w) (gives_up o s w)

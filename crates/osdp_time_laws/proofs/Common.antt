@@ -17,10 +17,11 @@ pub use Rattle.osdp_time_laws.specs.Acceptance.{AcceptedOrdersGoOut, IsAccepted,
 pub use Rattle.osdp_time_laws.specs.Orders.{is_under_way, left_after, order_time, OrdersGoOut, OrderWaits, Waits}
 pub use Rattle.osdp_frame.specs.Packet.{next_sequence, Packet}
 pub use Rattle.osdp_controller.specs.declared.exchange.Exchange.TheVariants.{Asking, Opening, Polling}
-pub use Rattle.osdp_controller.specs.Sessions.{after_send, at_rest, closed, later, seen}
+pub use Rattle.osdp_controller.specs.Sessions.{after_send, at_rest, closed, is_poll_next, later, seen}
 pub use Rattle.osdp_controller.specs.States.{is_closed, is_idle}
 pub use Rattle.osdp_controller.specs.Ticking.{begins, gives_up, sends_frame, stays, Ticked, ticks_in, tries_again}
 pub use Rattle.osdp_controller.proofs.Choices.{either_way}
+pub use Rattle.osdp_controller.proofs.Idling.{asks_front, idle_way}
 pub use Rattle.osdp_time_laws.specs.Clock.{is_tick, IsBy, IsOwed, KeepsTime, Stays, TicksBy}
 pub use Rattle.osdp_time_laws.specs.Laws.{ExchangesEnd, FallsSilent, GoesOn, is_in_session, is_opening, is_quiet, IsNotBusy, IsOpening, IsSilent, LastsAtMost, OpeningsEnd, SilenceIsTold}
 pub use Rattle.osdp_controller.specs.declared.exchange.Outstanding.{Outstanding}

@@ -1,5 +1,5 @@
 -- The moment by which a tick comes, from one call to the next.
-use Rattle.osdp_time_laws.proofs.Common.{◌≡◌, ◌⊎◌, inl, inr, ℕ, ◌+◌, ◌≤◌, ◌<◌, Bool, true, false, List, [], ◌∷◌, refl, arith, if◌then◌else◌, nat_le, nat_lt, le-leb, next_sequence, Command, Opening, Polling, Session, State, Closed, Quiet, Idle, Waiting, Pausing, acts, is_closed, Ticked, begins, gives_up, sends_frame, stays, ticks_in, tries_again, either_way, Call, IsBy, TicksBy, is_tick}
+use Rattle.osdp_time_laws.proofs.Common.{◌≡◌, ◌⊎◌, inl, inr, ℕ, ◌+◌, ◌≤◌, ◌<◌, Bool, true, false, List, ◌∷◌, refl, sym, ◌∙◌, arith, if◌then◌else◌, nat_le, nat_lt, false≢true, le-leb, Command, Opening, Session, State, Closed, Quiet, Idle, Waiting, Pausing, acts, is_closed, Ticked, begins, gives_up, sends_frame, stays, ticks_in, tries_again, either_way, idle_way, Call, IsBy, TicksBy, is_tick}
 use Rattle.std.proofs.lemmas.Bool.Decides.{leb_tells}
 
 -- the moment that a state waits for
@@ -60,9 +60,9 @@ pub due_at : (state : State) (s : Session) (w : List Command) → is_closed stat
 due_at Closed s w lives reached = cc
 due_at (Quiet until) s w lives reached =
     acts_one (nat_le until s.greatest) (begins Opening 0 s w) (stays s w) (le-leb until s.greatest reached) refl
-due_at (Idle due) s (command ∷ w) lives reached = refl
-due_at (Idle due) s [] lives reached =
-    acts_one (nat_le due s.greatest) (begins Polling (next_sequence s.number) s []) (stays s []) (le-leb due s.greatest reached) refl
+due_at (Idle due) s w lives reached =
+    idle_way (λ (t : Ticked). acts t.step ≡ true) due s w (λ b. refl) (λ b. absurd (false≢true (sym b ∙ le-leb due s.greatest reached)))
+    (λ command rest is. refl)
 due_at (Waiting until sends o) s w lives reached =
     acts_one (nat_le until s.greatest) (tries_again sends o s w) (stays s w) (le-leb until s.greatest reached)
     (either_way (λ (t : Ticked). acts t.step ≡ true) (nat_lt sends s.config.sends) (sends_frame (sends + 1) o s w) (gives_up o s w) (λ h. refl) (λ h. refl))

@@ -1,5 +1,5 @@
 -- Each bound is reached.
-use Rattle.osdp_time_laws.proofs.Common.{◌≡◌, ℕ, ◌+◌, ◌≤◌, Bool, true, false, ◌&&◌, ◌||◌, List, [], ◌∷◌, refl, sym, ◌∙◌, arith, max, nat_le, and_parts, false≢true, leb-true, All-cons, All-nil, next_sequence, Command, Opening, Polling, Session, State, Closed, Quiet, Idle, Waiting, Pausing, IsMachine, IsState, IsSubmitted, Machine, OpensAtZero, acts, seen, is_idle, Ticked, begins, sends_frame, stays, ticks_in, tries_again, either_way, Begin, Call, Hear, Tick, after_call, IsAccepted, IsBy, IsOwed, KeepsTime, TicksBy, is_tick, OrderWaits, FallsSilent, GoesOn, IsNotBusy, IsOpening, IsSilent}
+use Rattle.osdp_time_laws.proofs.Common.{◌≡◌, ℕ, ◌+◌, ◌≤◌, Bool, true, false, ◌&&◌, ◌||◌, List, [], ◌∷◌, refl, sym, ◌∙◌, arith, max, nat_le, and_parts, false≢true, leb-true, All-cons, All-nil, next_sequence, Command, Opening, Polling, Session, State, Closed, Quiet, Idle, Waiting, Pausing, IsMachine, IsState, IsSubmitted, Machine, OpensAtZero, acts, seen, is_idle, Ticked, begins, sends_frame, stays, ticks_in, tries_again, either_way, idle_way, Begin, Call, Hear, Tick, after_call, IsAccepted, IsBy, IsOwed, KeepsTime, TicksBy, is_tick, OrderWaits, FallsSilent, GoesOn, IsNotBusy, IsOpening, IsSilent}
 use Rattle.osdp_msg.specs.declared.command.Command.TheVariants.{Id}
 use Rattle.osdp_msg.specs.ReplyTable as replies
 use Rattle.osdp_controller.specs.Settings.{IsConfig}
@@ -15,9 +15,9 @@ pub reached_in : (state : State) (s : Session) (w : List Command) → (is_idle s
 reached_in Closed s w none = λ h. cc
 reached_in (Quiet until) s w none =
     either_way (Acts until s) (nat_le until s.greatest) (begins Opening 0 s w) (stays s w) (λ b h. leb-true until s.greatest b) (λ b h. cc)
-reached_in (Idle due) s (command ∷ w) none = λ h. absurd (let some : command ∷ w ≡ [] = none refl in cc)
-reached_in (Idle due) s [] none =
-    either_way (Acts due s) (nat_le due s.greatest) (begins Polling (next_sequence s.number) s []) (stays s []) (λ b h. leb-true due s.greatest b) (λ b h. cc)
+reached_in (Idle due) s w none =
+    idle_way (Acts due s) due s w (λ b h. leb-true due s.greatest b) (λ b h. cc)
+    (λ command rest has h. absurd (let some : command ∷ rest ≡ [] = sym has ∙ none refl in cc))
 reached_in (Waiting until sends o) s w none =
     either_way (Acts until s) (nat_le until s.greatest) (tries_again sends o s w) (stays s w) (λ b h. leb-true until s.greatest b) (λ b h. cc)
 reached_in (Pausing until o) s w none =
@@ -159,6 +159,7 @@ order_slow = record {
     room = omega arith;
   };
   begins = refl;
+  in_a_row = refl;
   place = omega arith;
   lasts = ((omega arith), refl, ((omega arith), refl, ((omega arith), refl, ((omega arith), refl, ((omega arith), refl, ((omega arith), refl, ((omega arith), refl, tt)))))));
   in_time = in_time_by 0 order_calls (after_call (Tick 0) two_orders) refl;
@@ -170,6 +171,7 @@ order_accepted = record {
   machine = keeps_each (Tick 0) (record (machine_in (Idle 0) 0) { waiting = Id 0 ∷ []; capacity = 2; room = 2866 }) one_id;
   timely = omega arith;
   under_way = refl;
+  in_a_row = refl;
   accepted = refl;
   lasts = order_slow.lasts;
   in_time = order_slow.in_time;

@@ -1,5 +1,7 @@
 -- An order in time: one exchange after the other.
-use Rattle.osdp_time_laws.proofs.Common.{◌≡◌, ◌∙◌, ap, sym, subst, inl, ℕ, zero, suc, ◌+◌, ◌-◌, ◌*◌, ◌≤◌, ◌<◌, Bool, true, false, List, [], ◌∷◌, length, Option, Some, None, refl, arith, drop, if◌then◌else◌, max, nat_le, nat_lt, suc-mul, length-append, next_sequence, Command, ControllerConfig, Opening, Polling, Asking, ControllerFault, Session, State, Closed, Quiet, Idle, Waiting, Pausing, Heard, Machine, acts, after_begin, after_retarget, after_submit, changed_unless, is_outstanding, submit_refusal, seen, is_closed, is_idle, Ticked, begins, gives_up, sends_frame, stays, ticks_in, tries_again, either_way, Call, Submit, Begin, Retarget, Withdraw, Tick, Hear, after_call, after_calls, hears_at_moment, submit_session, IsBy, IsOwed, KeepsTime, TicksBy, is_tick, order_time, OrdersGoOut, Waits, is_under_way, left_after}
+use Rattle.osdp_time_laws.proofs.Common.{◌≡◌, ◌∙◌, ap, sym, subst, inl, ℕ, zero, suc, ◌+◌, ◌-◌, ◌*◌, ◌≤◌, ◌<◌, Bool, true, false, ◌&&◌, List, [], ◌∷◌, length, Option, Some, None, refl, arith, drop, if◌then◌else◌, max, nat_le, nat_lt, suc-mul, length-append, next_sequence, Command, ControllerConfig, Opening, Polling, Asking, ControllerFault, Session, State, Closed, Quiet, Idle, Waiting, Pausing, Heard, Machine, acts, after_begin, after_retarget, after_submit, changed_unless, is_outstanding, submit_refusal, seen, is_closed, is_idle, Ticked, begins, gives_up, sends_frame, stays, ticks_in, tries_again, either_way, asks_front, idle_way, is_poll_next, Call, Submit, Begin, Retarget, Withdraw, Tick, Hear, after_call, after_calls, hears_at_moment, submit_session, IsBy, IsOwed, KeepsTime, TicksBy, is_tick, order_time, OrdersGoOut, Waits, is_under_way, left_after}
+use Rattle.std.specs.Prelude.{is_some, slice_get}
+use Rattle.osdp_controller.specs.Held.{on_its_way}
 use Rattle.osdp_controller_laws.proofs.Stepwise.{frames_in_steps}
 use Rattle.osdp_controller_laws.proofs.Ticks.{takes_front}
 use Rattle.osdp_time_laws.proofs.Beginnings.{begun_new, begun_tick, one_less, whole, whole_is}
@@ -30,32 +32,50 @@ stands_out (Waiting until sends o) out = refl
 stands_out (Pausing until o) out = refl
 stands_out _ out = cc
 
--- a call while an exchange is outstanding, and one that is no tick, leaves the place of an order
-left_same : (call : Call) (m : Machine) (left : ℕ) → is_idle m.session.state ≡ false → left_after call m left ≡ left
-left_same (Tick now) m left none = ap (λ (b : Bool). if b then left - 1 else left) none
-left_same _ m left none = refl
-
--- no command leaves but by a tick
+-- no command leaves but by a tick, and the front may be taken back: then the order has its place one sooner
 submit_waits : (f : Option ControllerFault) (command : Command) (m : Machine) (n : ℕ) → n ≤ length m.waiting
     → n ≤ length (changed_unless f m (after_submit command m)).waiting
 submit_waits None command m n some = let both = length-append m.waiting (command ∷ []) in omega arith
 submit_waits (Some fault) command m n some = some
 
-kept_waits : (b : Bool) (w : List Command) (n : ℕ) → b ≡ false → n ≤ length w → n ≤ length (if b then drop 1 w else w)
-kept_waits true w n none some = cc
-kept_waits false w n none some = some
+taken_back : (o : Option Command) (w : List Command) (j k : ℕ) → j + 1 ≤ length w
+    → (if is_some (if is_some o then None else slice_get w 0) then suc j - 1 else suc j) ≡ suc k
+    → (k ≤ j) × (k + 1 ≤ length (if is_some o then w else drop 1 w))
+taken_back (Some c) w j k some left = let same : suc j ≡ suc k = left in (omega arith, omega arith)
+taken_back None [] j k some left = absurd (omega arith)
+taken_back None (c ∷ w) j k some left =
+    let sooner : suc j - 1 ≡ suc k = left in
+    let within : j + 1 ≤ suc (length w) = some in
+    (omega arith, omega arith)
 
-waits_on : (call : Call) (m : Machine) (n : ℕ) → is_closed m.session.state ≡ false → (is_tick call ≡ true → is_idle m.session.state ≡ false)
-    → n ≤ length m.waiting → n ≤ length (after_call call m).waiting
-waits_on (Submit command) m n stands busy some = submit_waits (submit_refusal command m) command m n some
-waits_on (Begin now) m n stands busy some =
-    subst (λ (k : Machine). n ≤ length k.waiting) (sym (begun_not m.session.state m (after_begin now m) stands)) some
-waits_on (Retarget address) m n stands busy some =
-    subst (λ (k : Machine). n ≤ length k.waiting) (sym (moved_not m.session.state address m (after_retarget address m) stands)) some
-waits_on Withdraw m n stands busy some = kept_waits (is_closed m.session.state) m.waiting n stands some
-waits_on (Tick now) m n stands busy some =
-    subst (λ (w : List Command). n ≤ length w) (sym ((takes_front now m.session m.waiting).stay (busy refl))) some
-waits_on (Hear p now) m n stands busy some = some
+-- after a call that asks none the order waits on, with no more before it
+goes_on : (call : Call) (m : Machine) (j k : ℕ) → is_closed m.session.state ≡ false → (is_tick call ≡ true → is_idle m.session.state ≡ false)
+    → j + 1 ≤ length m.waiting → left_after call m (suc j) ≡ suc k → (k ≤ j) × (k + 1 ≤ length (after_call call m).waiting)
+goes_on (Submit command) m j k stands busy some left =
+    let same : suc j ≡ suc k = left in (omega arith, submit_waits (submit_refusal command m) command m (k + 1) (omega arith))
+goes_on (Begin now) m j k stands busy some left =
+    let same : suc j ≡ suc k = left in
+    (omega arith, subst (λ (n : Machine). k + 1 ≤ length n.waiting) (sym (begun_not m.session.state m (after_begin now m) stands)) (omega arith))
+goes_on (Retarget address) m j k stands busy some left =
+    let same : suc j ≡ suc k = left in
+    (omega arith, subst (λ (n : Machine). k + 1 ≤ length n.waiting) (sym (moved_not m.session.state address m (after_retarget address m) stands)) (omega arith))
+goes_on Withdraw m j k stands busy some left = taken_back (on_its_way m.session.state) m.waiting j k some left
+goes_on (Tick now) m j k stands busy some left =
+    let same : suc j ≡ suc k = sym (ap (λ (b : Bool). if b then suc j - 1 else suc j) (busy refl)) ∙ left in
+    (omega arith, subst (λ (w : List Command). k + 1 ≤ length w) (sym ((takes_front now m.session m.waiting).stay (busy refl))) (omega arith))
+goes_on (Hear p now) m j k stands busy some left = let same : suc j ≡ suc k = left in (omega arith, omega arith)
+
+less_product : (k j p : ℕ) → k ≤ j → k * p ≤ j * p
+less_product zero j p le = omega arith
+less_product (suc k) zero p le = absurd (omega (arith, le))
+less_product (suc k) (suc j) p le =
+    let rest : k * p ≤ j * p = less_product k j p (omega (arith, le)) in
+    let one = suc-mul k p in
+    let other = suc-mul j p in
+    omega arith
+
+fewer_fit : (e late p j k end : ℕ) → k ≤ j → e + late + j * p ≤ end → e + late + k * p ≤ end
+fewer_fit e late p j k end le fits = let less = less_product k j p le in omega arith
 
 -- the settings stay while the session goes on
 abbrev SameConfig : Session → Ticked → Type 0
@@ -65,9 +85,7 @@ tick_config : (state : State) (s : Session) (w : List Command) → SameConfig s 
 tick_config Closed s w = refl
 tick_config (Quiet until) s w =
     either_way (SameConfig s) (nat_le until s.greatest) (begins Opening 0 s w) (stays s w) (λ b. refl) (λ b. refl)
-tick_config (Idle due) s (command ∷ w) = refl
-tick_config (Idle due) s [] =
-    either_way (SameConfig s) (nat_le due s.greatest) (begins Polling (next_sequence s.number) s []) (stays s []) (λ b. refl) (λ b. refl)
+tick_config (Idle due) s w = idle_way (SameConfig s) due s w (λ b. refl) (λ b. refl) (λ command rest has. refl)
 tick_config (Waiting until sends o) s w =
     either_way (SameConfig s) (nat_le until s.greatest) (tries_again sends o s w) (stays s w)
     (λ b. either_way (SameConfig s) (nat_lt sends s.config.sends) (sends_frame (sends + 1) o s w) (gives_up o s w) (λ f. refl) (λ f. refl)) (λ b. refl)
@@ -86,11 +104,20 @@ rests_config Withdraw m out idle = refl
 rests_config (Tick now) m out idle = tick_config m.session.state (seen now m.session) m.waiting
 rests_config (Hear p now) m out idle = (frame_rests p now m.session out idle).0
 
--- where nothing is outstanding and a command waits a tick does something at any moment
-pub due_idle : (state : State) (s : Session) (w : List Command) → is_idle state ≡ true → 1 ≤ length w → acts (ticks_in state s w).step ≡ true
-due_idle (Idle due) s (command ∷ w) idle some = refl
-due_idle (Idle due) s [] idle some = absurd (omega arith)
-due_idle _ s w idle some = cc
+-- orders go out one after the other
+pub in_a_row : (s : Session) → s.config.poll_between_orders ≡ false → is_poll_next s ≡ false
+in_a_row s alone = ap (λ (b : Bool). b && s.asked) alone
+
+-- where nothing is outstanding, a command waits and no POLL comes first, a tick asks the command, at any moment
+pub front_way : (P : Ticked → Type 0) (state : State) (s : Session) (w : List Command) → is_idle state ≡ true → is_poll_next s ≡ false → 1 ≤ length w
+    → ((command : Command) (rest : List Command) → w ≡ command ∷ rest → P (begins (Asking command) (next_sequence s.number) s rest)) → P (ticks_in state s w)
+front_way P (Idle due) s [] idle may some asked = absurd (omega arith)
+front_way P (Idle due) s (command ∷ w) idle may some asked = subst P (sym (asks_front due s command w may)) (asked command w refl)
+front_way P _ s w idle may some asked = cc
+
+pub due_idle : (state : State) (s : Session) (w : List Command) → is_idle state ≡ true → is_poll_next s ≡ false → 1 ≤ length w
+    → acts (ticks_in state s w).step ≡ true
+due_idle state s w idle may some = front_way (λ (t : Ticked). acts t.step ≡ true) state s w idle may some (λ command rest has. refl)
 
 left_one : (j : ℕ) (b : Bool) → b ≡ true → (if b then suc j - 1 else suc j) ≡ j
 left_one j true same = omega arith
@@ -105,7 +132,10 @@ as_next n = omega arith
 pub next_product : (n p : ℕ) → (n + 1) * p ≡ n * p + p
 next_product n p = ap (λ (k : ℕ). k * p) (as_next n) ∙ suc-mul n p
 
-module _ (late end : ℕ) (c : ControllerConfig) (more : ℕ) (many : c.sends ≡ more + 1) where
+module _ (late end : ℕ) (c : ControllerConfig) (more : ℕ) (many : c.sends ≡ more + 1) (alone : c.poll_between_orders ≡ false) where
+  one_by_one : (s : Session) → s.config ≡ c → is_poll_next s ≡ false
+  one_by_one s config = in_a_row s (ap (λ (k : ControllerConfig). k.poll_between_orders) config ∙ alone)
+
   -- the longest exchange, and what comes before the next
   abbrev pub x : ℕ
   x = whole late more c.busy_limit c
@@ -134,9 +164,6 @@ module _ (late end : ℕ) (c : ControllerConfig) (more : ℕ) (many : c.sends �
   due_in_end : (e rest g : ℕ) → g ≤ e + late → e + late + rest ≤ end → g ≤ end
   due_in_end e rest g near fits = omega arith
 
-  one_place : (j k : ℕ) → suc j ≡ suc k → j ≡ k
-  one_place j k same = omega arith
-
   -- while an exchange is outstanding
   module _ (e : ℕ) where
     abbrev Out : List Call → Session → Type 0
@@ -154,14 +181,14 @@ module _ (late end : ℕ) (c : ControllerConfig) (more : ℕ) (many : c.sends �
         → Order (left_after call m (suc j)) calls (after_call call m)
     out_step j call calls m out config wait fits owed holds =
         let after = step late e c more (Unit {0}) is_outstanding refl (λ until n o so. tt) many call calls m (inl (λ due. refl)) out owed holds in
-        let same = left_same call m (suc j) (not_idle m.session.state out) in (
+        let on : (k : ℕ) → left_after call m (suc j) ≡ suc k → (k ≤ j) × (k + 1 ≤ length (after_call call m).waiting) =
+        λ k left. goes_on call m j k (stands_out m.session.state out) (λ tick. not_idle m.session.state out) wait left in (
           within_end e (j * (x + late)) (after_call call m).session.greatest after.0 fits,
           λ so k left. record {
             config = config_by (is_outstanding (after_call call m).session.state) call calls m refl out config after so;
-            wait = waits_on call m (k + 1) (stands_out m.session.state out) (λ tick. not_idle m.session.state out)
-                (let place : j ≡ k = one_place j k (sym same ∙ left) in omega arith);
+            wait = (on k left).1;
             by_end = e;
-            fits = let place : j ≡ k = one_place j k (sym same ∙ left) in subst (λ (n : ℕ). e + late + n * (x + late) ≤ end) place fits;
+            fits = fewer_fit e late (x + late) j k end (on k left).0 fits;
             stage = (λ on. after, λ none. (omega (arith, after.0), inl (omega arith, after.0)));
           },
         )
@@ -174,17 +201,19 @@ module _ (late end : ℕ) (c : ControllerConfig) (more : ℕ) (many : c.sends �
     due_then call calls m next stands on by_limit duty due =
         due_seen late e 0 m.session.greatest next call calls on by_limit (λ at not_before not_after zero_so. duty at not_before not_after) due
 
+    abbrev GoesOn : ℕ → Call → Machine → Type 0
+    GoesOn j call m = (k : ℕ) → left_after call m (suc j) ≡ suc k → (k ≤ j) × (k + 1 ≤ length (after_call call m).waiting)
+
     idle_others : (j : ℕ) (call : Call) (calls : List Call) (m : Machine) → is_tick call ≡ false → is_outstanding (after_call call m).session.state ≡ false
-        → (after_call call m).session.config ≡ c → j + 1 ≤ length (after_call call m).waiting → e + late + j * (x + late) ≤ end
-        → Due late e 0 (after_call call m).session.greatest (call ∷ calls) → (left_after call m (suc j) ≡ suc j)
-        → Order (left_after call m (suc j)) calls (after_call call m)
-    idle_others j call calls m other still config wait fits due same = (
+        → (after_call call m).session.config ≡ c → GoesOn j call m → e + late + j * (x + late) ≤ end
+        → Due late e 0 (after_call call m).session.greatest (call ∷ calls) → Order (left_after call m (suc j)) calls (after_call call m)
+    idle_others j call calls m other still config on fits due = (
       due_in_end e (j * (x + late)) (after_call call m).session.greatest due.0 fits,
       λ so k left. record {
         config = config;
-        wait = let place : j ≡ k = one_place j k (sym same ∙ left) in omega arith;
+        wait = (on k left).1;
         by_end = e;
-        fits = let place : j ≡ k = one_place j k (sym same ∙ left) in subst (λ (n : ℕ). e + late + n * (x + late) ≤ end) place fits;
+        fits = fewer_fit e late (x + late) j k end (on k left).0 fits;
         stage = (
           λ on. absurd (let none : is_outstanding (after_call call m).session.state ≡ false = still in cc),
           λ none. due_kept late e 0 (after_call call m).session.greatest call calls other due,
@@ -194,12 +223,12 @@ module _ (late end : ℕ) (c : ControllerConfig) (more : ℕ) (many : c.sends �
 
     idle_same : (j : ℕ) (call : Call) (calls : List Call) (m : Machine) → is_tick call ≡ false → (after_call call m).session ≡ m.session
         → is_outstanding m.session.state ≡ false → is_idle m.session.state ≡ true → m.session.config ≡ c → is_closed m.session.state ≡ false
-        → j + 1 ≤ length (after_call call m).waiting → e + late + j * (x + late) ≤ end → Due late e 0 m.session.greatest (call ∷ calls)
-        → (left_after call m (suc j) ≡ suc j) → Order (left_after call m (suc j)) calls (after_call call m)
-    idle_same j call calls m other same still idle config stands wait fits due left =
+        → GoesOn j call m → e + late + j * (x + late) ≤ end → Due late e 0 m.session.greatest (call ∷ calls)
+        → Order (left_after call m (suc j)) calls (after_call call m)
+    idle_same j call calls m other same still idle config stands on fits due =
         idle_others j call calls m other (subst (λ (s : Session). is_outstanding s.state ≡ false) (sym same) still)
-        (subst (λ (s : Session). s.config ≡ c) (sym same) config) wait fits
-        (subst (λ (s : Session). Due late e 0 s.greatest (call ∷ calls)) (sym same) due) left
+        (subst (λ (s : Session). s.config ≡ c) (sym same) config) on fits
+        (subst (λ (s : Session). Due late e 0 s.greatest (call ∷ calls)) (sym same) due)
 
     -- the front command is asked
     abbrev Asked : ℕ → List Call → ℕ → Ticked → Type 0
@@ -208,17 +237,16 @@ module _ (late end : ℕ) (c : ControllerConfig) (more : ℕ) (many : c.sends �
 
     idle_asks : (j : ℕ) (calls : List Call) (state : State) (s : Session) (w : List Command) → is_idle state ≡ true → s.config ≡ c → j + 1 ≤ length w
         → Asked j calls s.greatest (ticks_in state s w)
-    idle_asks j calls (Idle due) s [] idle config wait = absurd (omega arith)
-    idle_asks j calls (Idle due) s (command ∷ w) idle config wait =
+    idle_asks j calls state s w idle config wait =
         let allowed : c.busy_limit ≡ s.config.busy_limit = ap (λ (k : ControllerConfig). k.busy_limit) (sym config) in
-        let limit : 0 + c.busy_limit ≡ s.config.busy_limit = omega arith in (
+        let limit : 0 + c.busy_limit ≡ s.config.busy_limit = omega arith in
+        front_way (Asked j calls s.greatest) state s w idle (one_by_one s config) (omega arith) (λ command rest has. (
           config,
-          omega arith,
+          (let counted : length w ≡ suc (length rest) = ap (λ (l : List Command). length l) has in omega arith),
           subst (λ (k : ControllerConfig). Holds late (s.greatest + whole late more c.busy_limit k) k more (Unit {0}) is_outstanding refl calls
-              (begins (Asking command) (next_sequence s.number) s w).session) config
-              (begun_new late more c.busy_limit calls (Asking command) (next_sequence s.number) s w (inl limit) refl),
-        )
-    idle_asks j calls _ s w idle config wait = cc
+              (begins (Asking command) (next_sequence s.number) s rest).session) config
+              (begun_new late more c.busy_limit calls (Asking command) (next_sequence s.number) s rest (inl limit) refl),
+        ))
 
     idle_tick : (j now : ℕ) (calls : List Call) (m : Machine) → is_idle m.session.state ≡ true → m.session.config ≡ c
         → j + 1 ≤ length m.waiting → e + late + j * (x + late) ≤ end → max m.session.greatest now ≤ e + late
@@ -239,20 +267,24 @@ module _ (late end : ℕ) (c : ControllerConfig) (more : ℕ) (many : c.sends �
           },
         )
 
-    duty_idle : (call : Call) (calls : List Call) (m : Machine) → is_idle m.session.state ≡ true → 1 ≤ length m.waiting
+    duty_idle : (call : Call) (calls : List Call) (m : Machine) → is_idle m.session.state ≡ true → m.session.config ≡ c → 1 ≤ length m.waiting
         → ((at : ℕ) → IsOwed at call m → TicksBy (at + late) (call ∷ calls))
         → (at : ℕ) → m.session.greatest ≤ at → at ≤ (after_call call m).session.greatest → TicksBy (at + late) (call ∷ calls)
-    duty_idle call calls m idle some owed at not_before not_after =
-        owed at (record { not_before = not_before; not_after = not_after; due = due_idle m.session.state (seen at m.session) m.waiting idle some })
+    duty_idle call calls m idle config some owed at not_before not_after =
+        owed at (record {
+          not_before = not_before;
+          not_after = not_after;
+          due = due_idle m.session.state (seen at m.session) m.waiting idle (one_by_one (seen at m.session) config) some;
+        })
 
     moved_due : (call : Call) (calls : List Call) (m : Machine) (now : ℕ) → (after_call call m).session.greatest ≡ max m.session.greatest now
-        → ((limit : ℕ) → IsBy limit call → now ≤ limit) → is_idle m.session.state ≡ true → is_closed m.session.state ≡ false → 1 ≤ length m.waiting
+        → ((limit : ℕ) → IsBy limit call → now ≤ limit) → is_idle m.session.state ≡ true → m.session.config ≡ c → is_closed m.session.state ≡ false → 1 ≤ length m.waiting
         → ((at : ℕ) → IsOwed at call m → TicksBy (at + late) (call ∷ calls)) → Due late e 0 m.session.greatest (call ∷ calls)
         → Due late e 0 (max m.session.greatest now) (call ∷ calls)
-    moved_due call calls m now moment by_now idle stands some owed due =
+    moved_due call calls m now moment by_now idle config stands some owed due =
         due_then call calls m (max m.session.greatest now) stands (omega arith)
         (λ limit within by_limit. let now_by : now ≤ limit = by_now limit by_limit in omega arith)
-        (λ at not_before not_after. duty_idle call calls m idle some owed at not_before (subst (λ (g : ℕ). at ≤ g) (sym moment) not_after)) due
+        (λ at not_before not_after. duty_idle call calls m idle config some owed at not_before (subst (λ (g : ℕ). at ≤ g) (sym moment) not_after)) due
 
     idle_step : (j : ℕ) (call : Call) (calls : List Call) (m : Machine) → is_under_way m.session.state ≡ true → is_outstanding m.session.state ≡ false
         → m.session.config ≡ c → j + 1 ≤ length m.waiting → e + late + j * (x + late) ≤ end
@@ -260,29 +292,29 @@ module _ (late end : ℕ) (c : ControllerConfig) (more : ℕ) (many : c.sends �
         → Order (left_after call m (suc j)) calls (after_call call m)
     idle_step j (Submit command) calls m so still config wait fits owed due =
         idle_same j (Submit command) calls m refl (submit_session (submit_refusal command m) command m) still (at_rest m.session.state so still) config
-        (lives m.session.state so) (waits_on (Submit command) m (j + 1) (lives m.session.state so) (λ tick. cc) wait) fits due refl
+        (lives m.session.state so) (λ k left. goes_on (Submit command) m j k (lives m.session.state so) (λ tick. cc) wait left) fits due
     idle_step j (Begin now) calls m so still config wait fits owed due =
         let same = begun_not m.session.state m (after_begin now m) (lives m.session.state so) in
         idle_same j (Begin now) calls m refl (ap (λ (k : Machine). k.session) same) still (at_rest m.session.state so still) config
-        (lives m.session.state so) (waits_on (Begin now) m (j + 1) (lives m.session.state so) (λ tick. cc) wait) fits due refl
+        (lives m.session.state so) (λ k left. goes_on (Begin now) m j k (lives m.session.state so) (λ tick. cc) wait left) fits due
     idle_step j (Retarget address) calls m so still config wait fits owed due =
         let same = moved_not m.session.state address m (after_retarget address m) (lives m.session.state so) in
         idle_same j (Retarget address) calls m refl (ap (λ (k : Machine). k.session) same) still (at_rest m.session.state so still) config
-        (lives m.session.state so) (waits_on (Retarget address) m (j + 1) (lives m.session.state so) (λ tick. cc) wait) fits due refl
+        (lives m.session.state so) (λ k left. goes_on (Retarget address) m j k (lives m.session.state so) (λ tick. cc) wait left) fits due
     idle_step j Withdraw calls m so still config wait fits owed due =
         idle_same j Withdraw calls m refl refl still (at_rest m.session.state so still) config
-        (lives m.session.state so) (waits_on Withdraw m (j + 1) (lives m.session.state so) (λ tick. cc) wait) fits due refl
+        (lives m.session.state so) (λ k left. goes_on Withdraw m j k (lives m.session.state so) (λ tick. cc) wait left) fits due
     idle_step j (Tick now) calls m so still config wait fits owed due =
         let idle = at_rest m.session.state so still in
         idle_tick j now calls m idle config wait fits
-        (moved_due (Tick now) calls m now (tick_at_moment now m) (λ limit is. is) idle (lives m.session.state so) (omega arith) owed due).0
+        (moved_due (Tick now) calls m now (tick_at_moment now m) (λ limit is. is) idle config (lives m.session.state so) (omega arith) owed due).0
     idle_step j (Hear p now) calls m so still config wait fits owed due =
         let idle = at_rest m.session.state so still in
         let same : (after_call (Hear p now) m).session ≡ seen now m.session = ap (λ (h : Heard). h.session) ((frames_in_steps p now m.session).not_outstanding still) in
         idle_others j (Hear p now) calls m refl (subst (λ (s : Session). is_outstanding s.state ≡ false) (sym same) still)
-        (subst (λ (s : Session). s.config ≡ c) (sym same) config) wait fits
+        (subst (λ (s : Session). s.config ≡ c) (sym same) config) (λ k left. goes_on (Hear p now) m j k (lives m.session.state so) (λ tick. cc) wait left) fits
         (subst (λ (s : Session). Due late e 0 s.greatest (Hear p now ∷ calls)) (sym same)
-        (moved_due (Hear p now) calls m now (hears_at_moment p now m.session) (λ limit is. is) idle (lives m.session.state so) (omega arith) owed due)) refl
+        (moved_due (Hear p now) calls m now (hears_at_moment p now m.session) (λ limit is. is) idle config (lives m.session.state so) (omega arith) owed due))
 
   -- one call, and all of them
   order_by : (b : Bool) (j : ℕ) (call : Call) (calls : List Call) (m : Machine) → is_outstanding m.session.state ≡ b → is_under_way m.session.state ≡ true
@@ -316,7 +348,7 @@ orders_go_out late now before calls m o =
     let first = begun_tick late sends.0 c.busy_limit calls m.session.state s m.waiting (inl (omega arith)) o.machine.session.state o.begins in
     let near : k.session.greatest ≤ s.greatest + w = first.0 in
     let last : (after_calls calls k).session.greatest ≤ end =
-    orders late end c sends.0 sends.1 (before + 1) calls k o.lasts o.in_time (
+    orders late end c sends.0 sends.1 o.in_a_row (before + 1) calls k o.lasts o.in_time (
       begins_within s.greatest k.session.greatest late (before * (w + late)) w near,
       λ so j left. let place : before ≡ j = one_before before j left in record {
         config = tick_config m.session.state s m.waiting;

@@ -1,5 +1,5 @@
 -- What a session may still take, from one call to the next.
-use Rattle.osdp_time_laws.proofs.Common.{◌≡◌, ◌∙◌, ◌⊎◌, ap, subst, inl, inr, ℕ, zero, suc, ◌+◌, ◌-◌, ◌*◌, ◌^◌, ◌≤◌, ◌<◌, Bool, true, false, List, [], ◌∷◌, None, refl, arith, All, nat_le, nat_lt, min-le_left, suc-mul, leb-false, ltb-false, ltb-true, All-head, All-tail, Packet, next_sequence, Command, ControllerConfig, Opening, Polling, Asking, Outstanding, ReplyMeaning, Session, State, Closed, Quiet, Idle, Waiting, Pausing, is_not_taken, meaning_of, Heard, hears, hears_busy, loses, waiting_hears, numbered_in, after_send, at_rest, closed, later, seen, is_closed, Ticked, begins, gives_up, sends_frame, stays, ticks_in, tries_again, either_way, Call, Hear, OfEach, either_frame, of_answer, of_pause, of_unread, is_tick, IsNotBusy}
+use Rattle.osdp_time_laws.proofs.Common.{◌≡◌, ◌∙◌, ◌⊎◌, ap, subst, inl, inr, ℕ, zero, suc, ◌+◌, ◌-◌, ◌*◌, ◌^◌, ◌≤◌, ◌<◌, Bool, true, false, List, ◌∷◌, None, refl, arith, All, nat_le, nat_lt, min-le_left, suc-mul, leb-false, ltb-false, ltb-true, All-head, All-tail, Packet, next_sequence, Command, ControllerConfig, Opening, Polling, Asking, Outstanding, ReplyMeaning, Session, State, Closed, Quiet, Idle, Waiting, Pausing, is_not_taken, meaning_of, Heard, hears, hears_busy, loses, waiting_hears, numbered_in, after_send, at_rest, closed, later, seen, is_closed, Ticked, begins, gives_up, sends_frame, stays, ticks_in, tries_again, either_way, idle_way, Call, Hear, OfEach, either_frame, of_answer, of_pause, of_unread, is_tick, IsNotBusy}
 use Rattle.osdp_controller.specs.declared.meaning.ReplyMeaning.TheVariants.{NotTaken, Damaged, NumberRefused, Plain, Unreadable}
 use Rattle.osdp_controller.specs.declared.report.LostCause.TheVariants as causes
 use Rattle.osdp_time_laws.proofs.Duties.{Due, due_ahead, due_anew, due_kept, due_now, until_of}
@@ -257,14 +257,15 @@ module _ (late end : ℕ) (c : ControllerConfig) (more : ℕ) (Counts : Type 0) 
       tick_holds Closed call calls s w near same lives p stay = cc
       tick_holds (Quiet until) call calls s w near same lives p stay =
           either_way (TickHolds calls) (nat_le until s.greatest) (begins Opening 0 s w) (stays s w)
-          (λ reached. sends_first (record { exchange = Opening; busies = 0; sent = 0 }) until call calls (record s { number = 0 }) near same p)
+          (λ reached. sends_first (record { exchange = Opening; busies = 0; sent = 0 }) until call calls (record s { number = 0; asked = false }) near same p)
           (λ no. stay (leb-false until s.greatest no))
-      tick_holds (Idle due) call calls s (command ∷ w) near same lives p stay =
-          sends_first (record { exchange = Asking command; busies = 0; sent = 0 }) due call calls (record s { number = next_sequence s.number }) near same p
-      tick_holds (Idle due) call calls s [] near same lives p stay =
-          either_way (TickHolds calls) (nat_le due s.greatest) (begins Polling (next_sequence s.number) s []) (stays s [])
-          (λ reached. sends_first (record { exchange = Polling; busies = 0; sent = 0 }) due call calls (record s { number = next_sequence s.number }) near same p)
+      tick_holds (Idle due) call calls s w near same lives p stay =
+          let number = next_sequence s.number in
+          idle_way (TickHolds calls) due s w
+          (λ reached. sends_first (record { exchange = Polling; busies = 0; sent = 0 }) due call calls (record s { number = number; asked = false }) near same p)
           (λ no. stay (leb-false due s.greatest no))
+          (λ command rest has. sends_first (record { exchange = Asking command; busies = 0; sent = 0 }) due call calls
+          (record s { number = number; asked = true }) near same p)
       tick_holds (Waiting until sends o) call calls s w near same lives p stay =
           either_way (TickHolds calls) (nat_le until s.greatest) (tries_again sends o s w) (stays s w)
           (λ reached. either_way (TickHolds calls) (nat_lt sends s.config.sends) (sends_frame (sends + 1) o s w) (gives_up o s w)

@@ -1,5 +1,5 @@
 -- What a state waits for lies no further away than its own wait.
-use Rattle.osdp_time_laws.proofs.Common.{sym, subst, ℕ, ◌+◌, ◌≤◌, List, [], ◌∷◌, Option, Some, None, arith, max, nat_le, nat_lt, Packet, next_sequence, Command, ControllerConfig, Opening, Polling, ControllerFault, ReplyMeaning, Session, State, Closed, Quiet, Idle, Waiting, Pausing, meaning_of, Heard, hears, Machine, after_begin, after_retarget, changed_unless, refused_unless_closed, retarget_refusal, submit_refusal, numbered_in, later, seen, Ticked, begins, gives_up, sends_frame, stays, ticks_in, tries_again, either_way, Call, Submit, Begin, Retarget, Withdraw, Tick, Hear, after_call, after_calls, OfEach, either_frame, of_pause, of_wait, submit_session, IsTimely, StaysTimely, WaitsItsTime}
+use Rattle.osdp_time_laws.proofs.Common.{sym, subst, ℕ, ◌+◌, ◌≤◌, List, [], ◌∷◌, Option, Some, None, arith, max, nat_le, nat_lt, Packet, Command, ControllerConfig, Opening, ControllerFault, ReplyMeaning, Session, State, Closed, Quiet, Idle, Waiting, Pausing, meaning_of, Heard, hears, Machine, after_begin, after_retarget, changed_unless, refused_unless_closed, retarget_refusal, submit_refusal, numbered_in, seen, Ticked, begins, gives_up, sends_frame, stays, ticks_in, tries_again, either_way, idle_way, Call, Submit, Begin, Retarget, Withdraw, Tick, Hear, after_call, after_calls, OfEach, either_frame, of_pause, of_wait, submit_session, IsTimely, StaysTimely, WaitsItsTime}
 use Rattle.osdp_time_laws.proofs.Phases.{later_within}
 
 -- a later moment that is seen
@@ -28,10 +28,8 @@ tick_timely : (state : State) (s : Session) (w : List Command) → OfSession s �
 tick_timely Closed s w is = is
 tick_timely (Quiet until) s w is =
     either_way TickTimely (nat_le until s.greatest) (begins Opening 0 s w) (stays s w) (λ b. later_within s.config.reply_wait s) (λ b. is)
-tick_timely (Idle due) s (command ∷ w) is = later_within s.config.reply_wait s
-tick_timely (Idle due) s [] is =
-    either_way TickTimely (nat_le due s.greatest) (begins Polling (next_sequence s.number) s []) (stays s [])
-    (λ b. later_within s.config.reply_wait s) (λ b. is)
+tick_timely (Idle due) s w is =
+    idle_way TickTimely due s w (λ b. later_within s.config.reply_wait s) (λ b. is) (λ command rest has. later_within s.config.reply_wait s)
 tick_timely (Waiting until sends o) s w is =
     either_way TickTimely (nat_le until s.greatest) (tries_again sends o s w) (stays s w)
     (λ b. either_way TickTimely (nat_lt sends s.config.sends) (sends_frame (sends + 1) o s w) (gives_up o s w)

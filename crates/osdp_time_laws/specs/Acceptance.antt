@@ -1,5 +1,5 @@
 -- An order from its acceptance on.
-use Rattle.std.specs.Prelude.{◌≡◌, ℕ, ◌+◌, ◌≤◌, true, List, length, None}
+use Rattle.std.specs.Prelude.{◌≡◌, ℕ, ◌+◌, ◌≤◌, true, false, List, length, None}
 use Rattle.osdp_msg.specs.declared.command.Command.{Command}
 use Rattle.osdp_controller.specs.declared.config.ControllerConfig.{ControllerConfig}
 use Rattle.osdp_controller.specs.declared.state.State.{State}
@@ -26,11 +26,12 @@ pub record StaysTimely : Type 0 where
   pub new : (config : ControllerConfig) (capacity room : ℕ) → IsTimely (new_machine config capacity room)
   pub later : (m : Machine) (calls : List Call) → IsTimely m → IsTimely (after_calls calls m)
 
--- a command is accepted while a session is under way, and waits
+-- a command is accepted while a session is under way, and waits. Orders go out one after the other
 pub record IsAccepted (late : ℕ) (command : Command) (calls : List Call) (m : Machine) : Type 0 where
   pub machine : IsMachine m
   pub timely : IsTimely m
   pub under_way : is_under_way m.session.state ≡ true
+  pub in_a_row : m.session.config.poll_between_orders ≡ false
   pub accepted : submit_refusal command m ≡ None
   pub lasts : Waits (length m.waiting + 1) calls (after_call (Submit command) m)
   pub in_time : KeepsTime late calls (after_call (Submit command) m)

@@ -17,11 +17,11 @@ use Rattle.osdp_time_laws.specs.Laws.{FallsSilent, GoesOn, IsNotBusy, IsOpening}
 -- two sends of 3 ms each, one BUSY with a pause of 2 ms, a POLL after 5 ms, 4 ms of quiet; ticks come up to 1 ms late
 abbrev pub short_waits : ControllerConfig
 short_waits =
-    record { address = 0; check = Sum; reply_wait = 3; poll_interval = 5; sends = 2; busy_wait = 2; busy_limit = 1; quiet_wait = 4 }
+    record { address = 0; check = Sum; reply_wait = 3; poll_interval = 5; sends = 2; busy_wait = 2; busy_limit = 1; quiet_wait = 4; poll_between_orders = false }
 
 abbrev pub machine_in : State → ℕ → Machine
 machine_in state number = record {
-  session = record { config = short_waits; state = state; number = number; greatest = 0 };
+  session = record { config = short_waits; state = state; number = number; asked = false; greatest = 0 };
   waiting = [];
   capacity = 1;
   room = 1433;

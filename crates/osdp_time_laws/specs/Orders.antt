@@ -1,11 +1,11 @@
 -- How long an order waits for the exchanges of its own controller.
-use Rattle.std.specs.Prelude.{◌≡◌, ℕ, ◌+◌, ◌-◌, ◌*◌, ◌<◌, ◌≤◌, Bool, true, false, if◌then◌else◌, List, [], ◌∷◌, length}
+use Rattle.std.specs.Prelude.{◌≡◌, ℕ, ◌+◌, ◌-◌, ◌*◌, ◌<◌, ◌≤◌, Bool, true, false, if◌then◌else◌, is_some, List, [], ◌∷◌, length}
 use Rattle.osdp_controller.specs.declared.config.ControllerConfig.{ControllerConfig}
 use Rattle.osdp_controller.specs.declared.state.State.{State}
 use Rattle.osdp_controller.specs.declared.state.State.TheVariants.{Closed, Quiet, Idle, Waiting, Pausing}
-use Rattle.osdp_controller.specs.Machine.{IsMachine, Machine}
+use Rattle.osdp_controller.specs.Machine.{IsMachine, Machine, withdrawn_in}
 use Rattle.osdp_controller.specs.States.{is_idle}
-use Rattle.osdp_controller_laws.specs.Runs.{Call, Tick, after_call, begins_exchange}
+use Rattle.osdp_controller_laws.specs.Runs.{Call, Tick, Withdraw, after_call, begins_exchange}
 use Rattle.osdp_time_laws.specs.Bounds.{longest_exchange}
 use Rattle.osdp_time_laws.specs.Clock.{KeepsTime}
 use Rattle.osdp_time_laws.specs.Laws.{LastsAtMost}
@@ -18,9 +18,11 @@ is_under_way (Idle due) = true
 is_under_way (Waiting until sends o) = true
 is_under_way (Pausing until o) = true
 
--- how many commands wait up to an order and with it: a tick asks the front one where nothing is outstanding
+-- how many commands wait up to an order and with it: a tick asks the front one where nothing is outstanding, and orders go out one after the other. The front
+-- may be taken back, too
 abbrev pub left_after : Call → Machine → ℕ → ℕ
 left_after (Tick now) m left = if is_idle m.session.state then left - 1 else left
+left_after Withdraw m left = if is_some (withdrawn_in m.session.state m.waiting) then left - 1 else left
 left_after _ m left = left
 
 -- the order waits before each of the calls, and its session is under way; the last of them may send its first frame, or end the session
@@ -33,10 +35,11 @@ Waits left (call ∷ calls) m =
 abbrev pub order_time : ControllerConfig → ℕ → ℕ → ℕ
 order_time c late before = (before + 1) * (longest_exchange c late + late)
 
--- an exchange begins, and an order waits that has so many before it
+-- an exchange begins, and an order waits that has so many before it. Orders go out one after the other
 pub record OrderWaits (late now before : ℕ) (calls : List Call) (m : Machine) : Type 0 where
   pub machine : IsMachine m
   pub begins : begins_exchange (Tick now) m ≡ true
+  pub in_a_row : m.session.config.poll_between_orders ≡ false
   pub place : before < length (after_call (Tick now) m).waiting
   pub lasts : Waits (before + 1) calls (after_call (Tick now) m)
   pub in_time : KeepsTime late calls (after_call (Tick now) m)

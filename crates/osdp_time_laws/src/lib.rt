@@ -32,8 +32,9 @@ pub fn bounds_are_reached()
     ensures { BoundsAreReached }
 {}
 
-/// In a session that goes on an order goes out within the longest exchange and a late tick, once for each command before it and once more. The time counts from
-/// where an exchange begins while the order waits, and that exchange is the one more. What goes out is its first frame.
+/// Where orders go out one after the other, an order of a session that goes on goes out within the longest exchange and a late tick, once for each command before it and once more. The time counts from
+/// where an exchange begins while the order waits, and that exchange is the one more. What goes out is its first frame. Where a command before it is taken back, the order
+/// has its turn sooner.
 pub fn orders_go_out()
     ensures { OrdersGoOut }
 {}
@@ -43,7 +44,7 @@ pub fn controllers_wait_their_time()
     ensures { StaysTimely }
 {}
 
-/// An accepted order goes out within the longest exchange and a late tick, once for each command before it and once more, or its session has ended by then. It
+/// Where orders go out one after the other, an accepted one goes out within the longest exchange and a late tick, once for each command before it and once more, or its session has ended by then. It
 /// is accepted while a session is under way, and the one more is the exchange that may be outstanding.
 pub fn accepted_orders_go_out()
     ensures { AcceptedOrdersGoOut }

@@ -206,7 +206,6 @@ usage: osdp panel [SETTING VALUE]...
   quiet-wait MS         how long a device is left quiet before a session opens: 400
   gap MS                after how long a silence a run of bytes is over: 20
   capacity N            how many commands may wait for each device, 1 to 1024: 64
-  poll-between-orders   on, off: whether a device is asked for its cards between two of its orders: off
 
 Input: a call on each line. Another program carries the port: share/osdp/examples/panel.py is one. Devices
 count from 1, in the order in which they were added.
@@ -340,7 +339,6 @@ usage: osdp plan [SETTING VALUE]...
   hold MS           for how long a driver, an adapter or a network holds a packet back: 0
   late MS           how late the panel's program is: 1
   orders N          how many orders of its reader wait before an order or a card, 0 to 1024: 0
-  poll-between-orders  on, off: whether a reader is asked for its cards between two of its orders: off
   reply-wait MS     how long an answer is waited for: 200
   poll-interval MS  from an answer to the next POLL: 50
   sends N           how often a packet is sent while no answer comes, 1 to 255: 3
@@ -363,11 +361,11 @@ A setting that is too short for its line is refused, with what it has to be.
 Examples:
 
   $ osdp plan readers 16 | grep -E '^(order|card)'
-  order               1168        1699      218944
+  order               2386        3448      437938
   card                1291        1822           -
 
   $ osdp plan readers 16 rate 115200 | grep -E '^(order|card)'
-  order                192         784      218944
+  order                434        1618      437938
   card                 254         846           -
 ";
 

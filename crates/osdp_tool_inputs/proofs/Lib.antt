@@ -1,4 +1,5 @@
 pub mod Common
+pub mod Printables
 pub mod Cutting
 pub mod Stamps
 pub mod Held

@@ -6,6 +6,7 @@ use Rattle.osdp_tool_captures.specs.Lines.{is_decimal}
 use Rattle.osdp_tool_streams.specs.Cut.{line_feed, lines_of}
 use Rattle.osdp_tool_streams.specs.Line.{line_bytes}
 use Rattle.osdp_tool_objects.specs.Objects.{object_with}
+use Rattle.osdp_tool_inputs.specs.Printable.{printable}
 use Rattle.osdp_tool_inputs.specs.Times.{ends_so, has_digits, run_of, stamp_at, stamps_of}
 use Rattle.osdp_tool_inputs.specs.declared.capture.LateTimes.{LateTimes}
 use Rattle.osdp_tool_times.specs.Captures.{Heard, after_line, after_lines, line_told, nothing_heard, place_of}
@@ -67,9 +68,9 @@ abbrev pub times_after : List ℕ → Option LateTimes → List ℕ
 times_after line None = []
 times_after line (Some late) = if is_about late line then took_text late.took late.waited else []
 
--- a stamp, with the day's time where that is asked for
+-- a stamp, with the day's time where that is asked for; its control characters are shown
 abbrev pub shown_by : Bool → List ℕ → List ℕ
-shown_by clock stamp = if clock then clock_stamp stamp else stamp
+shown_by clock stamp = printable (if clock then clock_stamp stamp else stamp)
 
 -- a line about a run, and the times of a late answer
 abbrev pub whole_line : Option LateTimes → List ℕ → List ℕ

@@ -1,3 +1,4 @@
+pub mod Printable
 pub mod Times
 pub mod Heard
 pub mod Moments

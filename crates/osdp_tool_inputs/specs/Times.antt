@@ -5,6 +5,7 @@ use Rattle.std.specs.Borrow.{Bor}
 use Rattle.osdp_tool_captures.specs.Lines.{is_decimal}
 use Rattle.osdp_tool_streams.specs.Cut.{line_feed, lines_of}
 use Rattle.osdp_tool_streams.specs.Line.{kept}
+use Rattle.osdp_tool_inputs.specs.Printable.{printable}
 
 -- the bytes of each part of a text
 abbrev pub parts : List (Bor (List ℕ)) → List (List ℕ)
@@ -54,9 +55,9 @@ run_of line = number_after 0 line
 abbrev pub stamp_at : ℕ → List (List ℕ) → List ℕ
 stamp_at run stamps = if run == 0 then no_stamp else get_or stamps (run - 1) no_stamp
 
--- a line of `show`, after the stamp of its run
+-- a line of `show`, after the stamp of its run, whose control characters are shown
 abbrev pub timed_line : List (List ℕ) → List ℕ → List ℕ
-timed_line stamps line = stamp_at (run_of line) stamps ++ (codes " " ++ (line ++ line_feed ∷ []))
+timed_line stamps line = printable (stamp_at (run_of line) stamps) ++ (codes " " ++ (line ++ line_feed ∷ []))
 
 -- what `show` prints of the digits in a text, with the stamps of the text
 abbrev pub timed_text : List ℕ → List ℕ → List ℕ

@@ -13,6 +13,7 @@ use crate::ears::Ears;
 use crate::echoes::push_echoes;
 use crate::lines::Lines;
 use crate::places::{Mark, Place, Source};
+use crate::printable::printable;
 use crate::times::{is_decimal, push_line, run_in};
 use memchr::memchr;
 use osdp_tool_objects::push_object;
@@ -126,16 +127,15 @@ fn members_after(alloc: Global, line: &[u8], told: Option<LateTimes>) -> Result<
     }
 }
 
-/// A stamp, with the day's time where that is asked for.
-fn shown_stamp(alloc: Global, clock: bool, stamp: &[u8]) -> Result<Vec<u8>, AllocError>
-    ensures { IfOk result (λ shown. shown.items ≡ shown_by clock stamp.now) }
+/// A stamp, with the day's time where that is asked for. Its control characters are shown.
+fn shown_stamp(alloc: Global, clock: bool, stamp: &[u8]) -> Result<String, AllocError>
+    ensures { IfOk result (λ shown. string_bytes shown ≡ shown_by clock stamp.now) }
 {
-    if clock {
-        return clock_stamp(alloc, stamp);
+    if !clock {
+        return printable(alloc, stamp);
     }
-    let mut shown = Vec::new(alloc);
-    shown.extend_from_slice(stamp)?;
-    Ok(shown)
+    let timed = clock_stamp(alloc, stamp)?;
+    printable(alloc, timed.as_slice())
 }
 
 /// A line about a run that tells this, and the times of a late answer.
@@ -161,7 +161,7 @@ fn push_marked(
 {
     let whole = whole_line(alloc, mark.told, line)?;
     let stamp = shown_stamp(alloc, clock, mark.stamp)?;
-    push_line(text, stamp.as_slice(), whole.as_slice())
+    push_line(text, stamp.as_bytes(), whole.as_slice())
 }
 
 /// Adds a line that was printed of a text, where it is about a run after the stamp of that, and before its times.
@@ -201,7 +201,7 @@ fn push_stamped(
     push_object(
         alloc,
         text,
-        stamp.as_slice(),
+        stamp.as_bytes(),
         times.as_bytes(),
         whole.as_slice(),
     )

@@ -3,6 +3,7 @@
 ghost use Rattle.osdp_tool_inputs.specs.Echoes.{KeepsOthers, LeavesAllElse, LeavesEchoOut, SortsAll};
 ghost use Rattle.osdp_tool_inputs.specs.Laws.{MomentsLeaveLines, NamesPlaces, StampsOneRun, TellsInOrder, TimesByRuns};
 ghost use Rattle.osdp_tool_inputs.specs.OneTask.{AskOnce};
+ghost use Rattle.osdp_tool_inputs.specs.Printable.{ShowsControls};
 
 /// The moments that the runtime's clock tells are in order.
 pub fn tells_in_order()
@@ -50,4 +51,10 @@ pub fn sorts_all()
 #[tactic(auto, using(crate::proofs::OneTask::ask_once))]
 pub fn words_ask_once()
     ensures { AskOnce }
+{}
+
+/// No control character of a comment is printed: each is shown by its number, as `\x1B`, and text without one stands as it is.
+#[tactic(auto, using(crate::proofs::Printables::shows_controls))]
+pub fn shows_controls()
+    ensures { ShowsControls }
 {}

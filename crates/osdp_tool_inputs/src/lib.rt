@@ -12,6 +12,7 @@ mod inputs;
 pub mod laws;
 mod lines;
 mod places;
+mod printable;
 mod tasks;
 mod times;
 mod told;

@@ -5,6 +5,7 @@ ghost use Rattle.osdp_tool_captures.specs.Lines.{is_decimal};
 ghost use Rattle.osdp_tool_inputs.specs.Times.{has_digits, is_stamp, no_stamp, parts, run_of, stamp_at, stamps_below, timed_line, timed_text};
 
 use crate::lines::cut_lines;
+use crate::printable::printable;
 use std::alloc::{AllocError, Global};
 
 /// What stands in front of a line whose run has no moment.
@@ -129,11 +130,17 @@ pub(crate) fn push_line(lines: &mut Vec<u8>, stamp: &[u8], line: &[u8]) -> Resul
 }
 
 /// Adds each line of `show` after the stamp of its run.
-fn push_lines(text: &mut Vec<u8>, stamps: &[&[u8]], lines: &[&[u8]]) -> Result<(), AllocError>
+fn push_lines(
+    alloc: Global,
+    text: &mut Vec<u8>,
+    stamps: &[&[u8]],
+    lines: &[&[u8]],
+) -> Result<(), AllocError>
     ensures { OnOk result (text.new.items ≡ text.old.items ++ flat_map (timed_line (parts stamps.now)) (parts lines.now)) }
 {
     for line in lines {
-        push_line(text, stamp_for(stamps, line), line)?;
+        let stamp = printable(alloc, stamp_for(stamps, line))?;
+        push_line(text, stamp.as_bytes(), line)?;
     }
     Ok(())
 }
@@ -146,6 +153,6 @@ pub fn timed(alloc: Global, text: &[u8], shown: &[u8]) -> Result<Vec<u8>, AllocE
     let stamps = stamps(alloc, lines.as_slice())?;
     let lines = cut_lines(alloc, shown)?;
     let mut timed = Vec::new(alloc);
-    push_lines(&mut timed, stamps.as_slice(), lines.as_slice())?;
+    push_lines(alloc, &mut timed, stamps.as_slice(), lines.as_slice())?;
     Ok(timed)
 }

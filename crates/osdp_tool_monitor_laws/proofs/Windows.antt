@@ -1,12 +1,13 @@
 -- What counts come to while a line goes on: none grows less.
 use Rattle.osdp_tool_monitor_laws.proofs.Common.{◌≡◌, ◌≤◌, ◌<◌, ◌+◌, ◌-◌, ℕ, Bool, true, false, cond, cond-true, is_ghost, ◌&&◌, ◌||◌, not, eqb, ltb, List, [], ◌∷◌, ◌++◌, length, get_or, Option, Some, refl, sym, subst, ap, ◌∙◌, arith, cond_both, RunItem, PacketItem, SkippedItem, RefusedItem, Packet, Found, copies_last, Tally, after_run, Counts, after_damage, after_packet, more_if, no_counts, table_of, Listening, after_table, ended, heard_item, heard_items, tabled_now, told_in, after_bad, hit_by, is_clean, diagnoses_text, Entry, accused, answered, brought, busy, judged, moved, opened, polled, refused, repeated, sent}
 use Rattle.std.specs.Prelude.{◌^◌}
+use Rattle.std.proofs.lemmas.Bool.{and_from, and_parts, eq-eqb, eqb-true}
 use Rattle.osdp_frame.specs.Items.{items}
 use Rattle.osdp_tool_monitor.specs.Hearing.{Come, Hearing, LineEvent, RunEnds, TableDue, TableTold, after_event, after_events}
 use Rattle.osdp_tool_monitor.specs.InTurn.{after_all}
 use Rattle.osdp_tool_monitor.specs.Windows.{Tabled, since, window_row, window_text}
 use Rattle.osdp_tool_monitor_laws.proofs.Counting.{accused_step, answered_step, asked_step, busy_step, damaged, events_step, forgot_step, judged_step, kept_long, long_after, moved_step, nak_step, opened_step, polls_step, repeats_step, taken}
-use Rattle.osdp_tool_monitor_laws.specs.Windows.{AddUp, LinesAddUp, NoTableTold, RowsAddUp, TablesAddUp, TellsWindows, in_table}
+use Rattle.osdp_tool_monitor_laws.specs.Windows.{AddUp, IsQuiet, LinesAddUp, NoTableTold, Prints, RowsAddUp, TablesAddUp, TellsWindows, in_table}
 use Rattle.osdp_tool_monitor.specs.Counts.{is_silent}
 
 more_is_more : (test : Bool) (n : ℕ) → n ≤ more_if test n
@@ -120,6 +121,30 @@ all_of c = record {
   accused = omega arith;
 }
 
+quiet_is_silent : (c : Counts) → IsQuiet c → is_silent c ≡ true
+quiet_is_silent c is =
+    let first = and_from (eqb c.asked 0) (eqb c.answered 0) (eq-eqb c.asked 0 is.0) (eq-eqb c.answered 0 is.1) in
+    let second = and_from (eqb c.asked 0 && eqb c.answered 0) (eqb c.busy 0) first (eq-eqb c.busy 0 is.2) in
+    and_from (eqb c.asked 0 && eqb c.answered 0 && eqb c.busy 0) (eqb c.nak 0) second (eq-eqb c.nak 0 is.3)
+
+silent_is_quiet : (c : Counts) → is_silent c ≡ true → IsQuiet c
+silent_is_quiet c is =
+    let first = and_parts (eqb c.asked 0 && eqb c.answered 0 && eqb c.busy 0) (eqb c.nak 0) is in
+    let second = and_parts (eqb c.asked 0 && eqb c.answered 0) (eqb c.busy 0) first.0 in
+    let third = and_parts (eqb c.asked 0) (eqb c.answered 0) second.0 in
+    (eqb-true c.asked 0 third.0, eqb-true c.answered 0 third.1, eqb-true c.busy 0 second.1, eqb-true c.nak 0 first.1)
+
+-- a line is printed unless nothing came, where damage didn't make it
+prints : (a : ℕ) (c : Counts) (ghost : Bool) → ghost ≡ false → Prints a c (cond (is_silent c || ghost) [] (window_row a c))
+prints a c ghost is = record {
+  none = λ quiet. ap (λ b. cond b [] (window_row a c)) (or_none (is_silent c) ghost is ∙ quiet_is_silent c quiet);
+  line = λ loud. by_test (is_silent c) refl loud;
+}
+  where
+    by_test : (b : Bool) → is_silent c ≡ b → (IsQuiet c → ⊥) → cond (is_silent c || ghost) [] (window_row a c) ≡ window_row a c
+    by_test true silent loud = absurd (loud (silent_is_quiet c silent))
+    by_test false silent loud = ap (λ b. cond b [] (window_row a c)) (or_none (is_silent c) ghost is ∙ silent)
+
 pub tables_add_up : TablesAddUp
 tables_add_up h events a within =
     let before = get_or h.heard.counts a no_counts in
@@ -127,7 +152,8 @@ tables_add_up h events a within =
     let came = since (in_table before) now in
     record {
       left_out = λ is. cond-true (is_silent before || is_ghost before) [] _ (or_last (is_silent before) (is_ghost before) is);
-      window = λ is. ap (λ b. cond b [] (window_row a came)) (or_none (is_silent came) (is_ghost now) is);
+      came = came;
+      window = λ is. prints a came (is_ghost now) is;
       adds = elim (is_ghost before) as (λ b. AddUp (cond b no_counts before) (since (cond b no_counts before) now) now)
           [ true ↦ all_of now | false ↦ rows_add_up h events a within ];
     }

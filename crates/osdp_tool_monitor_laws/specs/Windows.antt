@@ -3,7 +3,7 @@ use Rattle.std.specs.Prelude.{◌≡◌, ◌<◌, ◌+◌, ◌-◌, ℕ, true, f
 use Rattle.osdp_tool_show.specs.declared.detail.Detail.{Detail}
 use Rattle.osdp_tool_show.specs.declared.tally.Tally.{Tally}
 use Rattle.osdp_tool_monitor.specs.declared.counts.Counts.{Counts}
-use Rattle.osdp_tool_monitor.specs.Counts.{is_ghost, is_silent, no_counts, row_if}
+use Rattle.osdp_tool_monitor.specs.Counts.{is_ghost, no_counts, row_if}
 use Rattle.osdp_tool_monitor.specs.Hearing.{Come, Hearing, LineEvent, RunEnds, TableDue, TableTold, after_events, event_report}
 use Rattle.osdp_tool_monitor.specs.Listening.{Listening, tabled_now}
 use Rattle.osdp_tool_monitor.specs.Windows.{since, tally_since, window_of, window_row, window_row_if}
@@ -56,12 +56,22 @@ RowsAddUp = (h : Hearing) (events : List LineEvent) (address : ℕ) → address 
 abbrev pub in_table : Counts → Counts
 in_table c = if is_ghost c then no_counts else c
 
--- Where the next table has its line, the window has what the last one did not tell of it: both add up to that line.
+-- no packet to the address, and none of it
+abbrev pub IsQuiet : Counts → Type 0
+IsQuiet c = (c.asked ≡ 0) × (c.answered ≡ 0) × (c.busy ≡ 0) × (c.nak ≡ 0)
+
+-- what is printed of an address: no line where no packet came, and else its line with these columns
+pub record Prints (address : ℕ) (c : Counts) (text : List ℕ) : Type 0 where
+  pub none : IsQuiet c → text ≡ []
+  pub line : (IsQuiet c → ⊥) → text ≡ window_row address c
+
+-- Where the next table has its line, the window prints what came since the last one: what that told of the address and what came add up to this line, column
+-- by column. So it is where the last table had no line, since damage had made it.
 pub record TablesAdd (address : ℕ) (before now : Counts) : Type 0 where
   pub left_out : is_ghost before ≡ true → row_if address before ≡ []
-  pub window : is_ghost now ≡ false
-      → window_row_if address before now ≡ (if is_silent (since (in_table before) now) then [] else window_row address (since (in_table before) now))
-  pub adds : AddUp (in_table before) (since (in_table before) now) now
+  pub came : Counts
+  pub adds : AddUp (in_table before) came now
+  pub window : is_ghost now ≡ false → Prints address came (window_row_if address before now)
 
 abbrev pub TablesAddUp : Type 0
 TablesAddUp = (h : Hearing) (events : List LineEvent) (address : ℕ) → address < length h.heard.counts →

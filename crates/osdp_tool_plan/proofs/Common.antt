@@ -14,5 +14,5 @@ pub use Rattle.osdp_tool_plan.specs.Settings.{AreInRange, ArePlan, defaults, ent
 pub use Rattle.osdp_tool_plan.specs.declared.setting.Planned.{Planned}
 pub use Rattle.osdp_tool_plan.specs.declared.setting.PlanSetting.{PlanSetting}
 pub use Rattle.osdp_words.specs.Word.{AllStandFor, texts}
-pub use Rattle.osdp_tool_plan.specs.declared.setting.PlanSetting.TheVariants.{Answer, BusyLimit, BusyWait, Check, Hold, Late, Longest, Orders, PollBetweenOrders, PollInterval, QuietWait, Rate, Readers, ReplyWait, Sends}
+pub use Rattle.osdp_tool_plan.specs.declared.setting.PlanSetting.TheVariants.{Answer, BusyLimit, BusyWait, Check, Hold, Late, Longest, Orders, PollInterval, QuietWait, Rate, Readers, ReplyWait, Sends}
 pub use Rattle.osdp_plan.specs.Plans.{default_plan, IsPlan}

@@ -1,5 +1,5 @@
 -- A name and its value say one setting at most.
-use Rattle.osdp_tool_plan.proofs.Common.{◌≡◌, ◌∙◌, ◌&&◌, ◌==◌, ◌<◌, ◌^◌, ℕ, Bool, true, false, if◌then◌else◌, List, [], ◌∷◌, codes, refl, sym, ap, subst, arith, Give, SettingFits, setting_words, AllStandFor, PlanSetting, Check, Readers, Rate, Longest, Answer, Hold, Late, Orders, PollBetweenOrders, ReplyWait, PollInterval, Sends, BusyWait, BusyLimit, QuietWait, entry}
+use Rattle.osdp_tool_plan.proofs.Common.{◌≡◌, ◌∙◌, ◌&&◌, ◌==◌, ◌<◌, ◌^◌, ℕ, Bool, true, false, if◌then◌else◌, List, [], ◌∷◌, codes, refl, sym, ap, subst, arith, Give, SettingFits, setting_words, AllStandFor, PlanSetting, Check, Readers, Rate, Longest, Answer, Hold, Late, Orders, ReplyWait, PollInterval, Sends, BusyWait, BusyLimit, QuietWait, entry}
 use Rattle.std.specs.Fmt.{decimal}
 use Rattle.std.specs.Str.Parse.{digits_value}
 use Rattle.std.proofs.lemmas.Fmt.{decimal_is_IsNumeral}
@@ -22,7 +22,6 @@ read n v =
     else if same n (codes "hold") then Hold (digits_value 10 v)
     else if same n (codes "late") then Late (digits_value 10 v)
     else if same n (codes "orders") then Orders (digits_value 10 v)
-    else if same n (codes "poll-between-orders") then PollBetweenOrders (same v (codes "on"))
     else if same n (codes "reply-wait") then ReplyWait (digits_value 10 v)
     else if same n (codes "poll-interval") then PollInterval (digits_value 10 v)
     else if same n (codes "sends") then Sends (digits_value 10 v)
@@ -44,8 +43,6 @@ is_read (Answer k) n v fits h = subst (λ (m : List ℕ). read m v ≡ Answer k)
 is_read (Hold k) n v fits h = subst (λ (m : List ℕ). read m v ≡ Hold k) (sym h.0) (ap Hold (digits k v (omega (arith, fits)) h.1.0))
 is_read (Late k) n v fits h = subst (λ (m : List ℕ). read m v ≡ Late k) (sym h.0) (ap Late (digits k v (omega (arith, fits)) h.1.0))
 is_read (Orders k) n v fits h = subst (λ (m : List ℕ). read m v ≡ Orders k) (sym h.0) (ap Orders (digits k v (omega (arith, fits)) h.1.0))
-is_read (PollBetweenOrders true) n v fits h = rw (h.0, h.1.0) refl
-is_read (PollBetweenOrders false) n v fits h = rw (h.0, h.1.0) refl
 is_read (ReplyWait k) n v fits h = subst (λ (m : List ℕ). read m v ≡ ReplyWait k) (sym h.0) (ap ReplyWait (digits k v (omega (arith, fits)) h.1.0))
 is_read (PollInterval k) n v fits h = subst (λ (m : List ℕ). read m v ≡ PollInterval k) (sym h.0) (ap PollInterval (digits k v (omega (arith, fits)) h.1.0))
 is_read (Sends k) n v fits h = subst (λ (m : List ℕ). read m v ≡ Sends k) (sym h.0) (ap Sends (digits k v (omega (arith, fits)) h.1.0))

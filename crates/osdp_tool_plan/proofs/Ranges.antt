@@ -1,5 +1,5 @@
 -- Settings within their ranges keep a plan within its own.
-use Rattle.osdp_tool_plan.proofs.Common.{◌≡◌, ℕ, List, [], ◌∷◌, Some, subst, arith, Plan, IsPlan, default_plan, some_same, SettingFits, after, Plans, Planned, PlanSetting, Check, Readers, Rate, Longest, Answer, Hold, Late, Orders, PollBetweenOrders, ReplyWait, PollInterval, Sends, BusyWait, BusyLimit, QuietWait, AreInRange, ArePlan, defaults, entry, put, with_setting}
+use Rattle.osdp_tool_plan.proofs.Common.{◌≡◌, ℕ, List, [], ◌∷◌, Some, subst, arith, Plan, IsPlan, default_plan, some_same, SettingFits, after, Plans, Planned, PlanSetting, Check, Readers, Rate, Longest, Answer, Hold, Late, Orders, ReplyWait, PollInterval, Sends, BusyWait, BusyLimit, QuietWait, AreInRange, ArePlan, defaults, entry, put, with_setting}
 use Rattle.std.specs.List.{AllByRecursion}
 
 pub set_in_range : (s : PlanSetting) (p : Plan) → SettingFits entry s → IsPlan p → IsPlan (with_setting s p)
@@ -11,7 +11,6 @@ set_in_range (Answer n) p fits h = record { readers = h.readers; rate = h.rate; 
 set_in_range (Hold n) p fits h = record { readers = h.readers; rate = h.rate; longest = h.longest; answer = h.answer; hold = fits.1; late = h.late; orders = h.orders; reply_wait = h.reply_wait; poll_interval = h.poll_interval; sends = h.sends; busy_wait = h.busy_wait; busy_limit = h.busy_limit; quiet_wait = h.quiet_wait }
 set_in_range (Late n) p fits h = record { readers = h.readers; rate = h.rate; longest = h.longest; answer = h.answer; hold = h.hold; late = fits.1; orders = h.orders; reply_wait = h.reply_wait; poll_interval = h.poll_interval; sends = h.sends; busy_wait = h.busy_wait; busy_limit = h.busy_limit; quiet_wait = h.quiet_wait }
 set_in_range (Orders n) p fits h = record { readers = h.readers; rate = h.rate; longest = h.longest; answer = h.answer; hold = h.hold; late = h.late; orders = fits.1; reply_wait = h.reply_wait; poll_interval = h.poll_interval; sends = h.sends; busy_wait = h.busy_wait; busy_limit = h.busy_limit; quiet_wait = h.quiet_wait }
-set_in_range (PollBetweenOrders on) p fits h = record { readers = h.readers; rate = h.rate; longest = h.longest; answer = h.answer; hold = h.hold; late = h.late; orders = h.orders; reply_wait = h.reply_wait; poll_interval = h.poll_interval; sends = h.sends; busy_wait = h.busy_wait; busy_limit = h.busy_limit; quiet_wait = h.quiet_wait }
 set_in_range (ReplyWait n) p fits h = record { readers = h.readers; rate = h.rate; longest = h.longest; answer = h.answer; hold = h.hold; late = h.late; orders = h.orders; reply_wait = fits; poll_interval = h.poll_interval; sends = h.sends; busy_wait = h.busy_wait; busy_limit = h.busy_limit; quiet_wait = h.quiet_wait }
 set_in_range (PollInterval n) p fits h = record { readers = h.readers; rate = h.rate; longest = h.longest; answer = h.answer; hold = h.hold; late = h.late; orders = h.orders; reply_wait = h.reply_wait; poll_interval = fits; sends = h.sends; busy_wait = h.busy_wait; busy_limit = h.busy_limit; quiet_wait = h.quiet_wait }
 set_in_range (Sends n) p fits h = record { readers = h.readers; rate = h.rate; longest = h.longest; answer = h.answer; hold = h.hold; late = h.late; orders = h.orders; reply_wait = h.reply_wait; poll_interval = h.poll_interval; sends = fits; busy_wait = h.busy_wait; busy_limit = h.busy_limit; quiet_wait = h.quiet_wait }

@@ -5,10 +5,9 @@ use Rattle.osdp_frame.specs.Times.{longest_time}
 use Rattle.osdp_plan.specs.declared.plan.Plan.{Plan}
 use Rattle.osdp_plan.specs.Plans.{IsPlan, default_plan}
 use Rattle.osdp_settings.specs.Settings.{Entry, Make, SettingFits, setting_words}
-use Rattle.osdp_settings.specs.Values.{switch_word}
 use Rattle.osdp_words.specs.Word.{plain, number}
 use Rattle.osdp_tool_plan.specs.declared.setting.PlanSetting.{PlanSetting}
-use Rattle.osdp_tool_plan.specs.declared.setting.PlanSetting.TheVariants.{Check, Readers, Rate, Longest, Answer, Hold, Late, Orders, PollBetweenOrders, ReplyWait, PollInterval, Sends, BusyWait, BusyLimit, QuietWait}
+use Rattle.osdp_tool_plan.specs.declared.setting.PlanSetting.TheVariants.{Check, Readers, Rate, Longest, Answer, Hold, Late, Orders, ReplyWait, PollInterval, Sends, BusyWait, BusyLimit, QuietWait}
 use Rattle.osdp_tool_plan.specs.declared.setting.Planned.{Planned}
 
 -- the name of each, its value as a word, and the range that is asked of it
@@ -21,7 +20,6 @@ entry (Answer n) = record { name = codes "answer"; value = number n; Fits = (0 �
 entry (Hold n) = record { name = codes "hold"; value = number n; Fits = (0 ≤ n) × (n ≤ longest_time) }
 entry (Late n) = record { name = codes "late"; value = number n; Fits = (0 ≤ n) × (n ≤ longest_time) }
 entry (Orders n) = record { name = codes "orders"; value = number n; Fits = (0 ≤ n) × (n ≤ 1024) }
-entry (PollBetweenOrders on) = record { name = codes "poll-between-orders"; value = switch_word on; Fits = Unit {0} }
 entry (ReplyWait n) = record { name = codes "reply-wait"; value = number n; Fits = (1 ≤ n) × (n ≤ longest_time) }
 entry (PollInterval n) = record { name = codes "poll-interval"; value = number n; Fits = (1 ≤ n) × (n ≤ longest_time) }
 entry (Sends n) = record { name = codes "sends"; value = number n; Fits = (1 ≤ n) × (n ≤ 255) }
@@ -38,7 +36,6 @@ with_setting (Answer n) p = record p { answer = n }
 with_setting (Hold n) p = record p { hold = n }
 with_setting (Late n) p = record p { late = n }
 with_setting (Orders n) p = record p { orders = n }
-with_setting (PollBetweenOrders on) p = record p { between = on }
 with_setting (ReplyWait n) p = record p { reply_wait = n }
 with_setting (PollInterval n) p = record p { poll_interval = n }
 with_setting (Sends n) p = record p { sends = n }

@@ -11,7 +11,7 @@ ghost use Rattle.osdp_tool_plan.specs.Settings.{AreInRange, defaults, entry, put
 
 use osdp_frame::CheckKind;
 use osdp_plan::Plan;
-use osdp_settings::{Configured, WrongSetting, number_within, read_settings, read_switch};
+use osdp_settings::{Configured, WrongSetting, number_within, read_settings};
 
 /// An hour in milliseconds, the longest time of a setting.
 const HOUR: u32 = 3_600_000;
@@ -35,8 +35,6 @@ pub enum PlanSetting {
     Late(u32),
     /// `orders`: how many orders of its reader wait before an order or a card, 0 to 1024.
     Orders(u32),
-    /// `poll-between-orders`: whether a reader is asked for its events between two orders, `on` or `off`.
-    PollBetweenOrders(bool),
     /// `reply-wait`: how long an answer is waited for.
     ReplyWait(u32),
     /// `poll-interval`: from an answer to the next POLL.
@@ -65,7 +63,6 @@ impl PlanSetting {
             "hold" => Some(PlanSetting::Hold(number_within(value, 0, HOUR)?)),
             "late" => Some(PlanSetting::Late(number_within(value, 0, HOUR)?)),
             "orders" => Some(PlanSetting::Orders(number_within(value, 0, 1024)?)),
-            "poll-between-orders" => Some(PlanSetting::PollBetweenOrders(read_switch(value)?)),
             "reply-wait" => Some(PlanSetting::ReplyWait(number_within(value, 1, HOUR)?)),
             "poll-interval" => Some(PlanSetting::PollInterval(number_within(value, 1, HOUR)?)),
             "sends" => Some(PlanSetting::Sends(number_within(value, 1, 255)?)),
@@ -89,7 +86,6 @@ impl PlanSetting {
             PlanSetting::Hold(hold) => Plan { hold, ..plan },
             PlanSetting::Late(late) => Plan { late, ..plan },
             PlanSetting::Orders(orders) => Plan { orders, ..plan },
-            PlanSetting::PollBetweenOrders(between) => Plan { between, ..plan },
             PlanSetting::ReplyWait(reply_wait) => Plan { reply_wait, ..plan },
             PlanSetting::PollInterval(poll_interval) => Plan {
                 poll_interval,

@@ -1,5 +1,6 @@
 -- What a line adds to a test of a device goes by the rows of the rules alone.
-use Rattle.osdp_tool_test.proofs.Common.{◌≡◌, ◌∙◌, ℕ, Bool, true, false, List, [], ◌∷◌, Option, Some, None, refl, sym, ap, option_map, Told, LeftOut, Line, SaidFits, asks, device, opens, said_words, skips, times, rule_in, Row, row, DeviceTest, after_each, after_exchange, after_said, after_seen, after_times, all_entries, begun_done, begun_entry, judged_entry, left_out, new_test, timed_entry, with_entry, with_known, with_run, Exchange}
+use Rattle.osdp_tool_test.proofs.Common.{◌≡◌, ◌∙◌, ℕ, Bool, true, false, List, [], ◌∷◌, Option, Some, None, refl, sym, ap, option_map, Told, LeftOut, Line, SaidFits, asks, breaks, device, keeps, opens, said_words, skips, times, rule_in, Row, row, DeviceTest, after_breaks, after_each, after_exchange, after_keeps, after_said, after_seen, after_times, all_entries, begun_done, begun_entry, broken_entry, judged_entry, left_out, new_test, timed_entry, with_entry, with_known, with_finding, with_run, Exchange}
+use Rattle.osdp_rules.specs.declared.finding.Finding.TheVariants.{Kept}
 use Rattle.osdp_tool_test.specs.Seen.{Seen, is_answered, seen_in}
 use Rattle.osdp_tool_test.specs.declared.rules.Rule.{Rule}
 use Rattle.osdp_tool_test.proofs.OneLine.{lines_named}
@@ -55,6 +56,14 @@ times_same : (n : ℕ) (o : Option Rule) (t : DeviceTest) → plainly (after_tim
 times_same n None t = refl
 times_same n (Some rule) t = entry_same n rule (timed_entry t.form t.run) (timed_entry t.form t.run) (λ e. refl) t
 
+keeps_same : (n : ℕ) (o : Option Rule) (t : DeviceTest) → plainly (after_keeps n o t) ≡ after_keeps n (option_map plain o) (plainly t)
+keeps_same n None t = refl
+keeps_same n (Some rule) t = entry_same n rule (with_finding Kept) (with_finding Kept) (λ e. refl) t
+
+breaks_same : (x : LeftOut) (o : Option Rule) (t : DeviceTest) → plainly (after_breaks x o t) ≡ after_breaks x (option_map plain o) (plainly t)
+breaks_same x None t = refl
+breaks_same x (Some rule) t = entry_same x.number rule (broken_entry t.form x.why) (broken_entry t.form x.why) (λ e. refl) t
+
 -- what a line adds goes by the rows of the rules alone
 said_same : (said : Option Line) (t : DeviceTest) → plainly (after_said said t) ≡ after_said said (plainly t)
 said_same None t = refl
@@ -63,6 +72,8 @@ said_same (Some (opens x)) t = exchange_same false x (rule_in t.rules x.number) 
 said_same (Some (asks x)) t = exchange_same true x (rule_in t.rules x.number) t ∙ ap (λ (o : Option Rule). after_exchange true x o (plainly t)) (sym (plain_rule t.rules x.number))
 said_same (Some (skips x)) t = left_same x (rule_in t.rules x.number) t ∙ ap (λ (o : Option Rule). left_out x o (plainly t)) (sym (plain_rule t.rules x.number))
 said_same (Some (times n)) t = times_same n (rule_in t.rules n) t ∙ ap (λ (o : Option Rule). after_times n o (plainly t)) (sym (plain_rule t.rules n))
+said_same (Some (keeps n)) t = keeps_same n (rule_in t.rules n) t ∙ ap (λ (o : Option Rule). after_keeps n o (plainly t)) (sym (plain_rule t.rules n))
+said_same (Some (breaks x)) t = breaks_same x (rule_in t.rules x.number) t ∙ ap (λ (o : Option Rule). after_breaks x o (plainly t)) (sym (plain_rule t.rules x.number))
 
 pub device_by_rows : GoesByRows said_words SaidFits after_said all_entries new_test row of_row plainly
 device_by_rows = record { named = lines_named; begun_same = λ form rules. refl; adds_same = said_same; found_same = λ t. refl }

@@ -1,5 +1,5 @@
 -- A line says one thing at most.
-use Rattle.osdp_tool_test.proofs.Common.{◌≡◌, ◌∙◌, ◌<◌, ◌^◌, ℕ, List, [], ◌∷◌, codes, refl, sym, ap, arith, ArrayVec, differ, AllStandFor, StandsFor, Word, bytes, number, plain, ExchangeFits, IsList, LeftOut, Line, SaidFits, asks, device, exchange_words, opens, said_name, said_words, skips, skips_words, times, IsRule, Exchange}
+use Rattle.osdp_tool_test.proofs.Common.{◌≡◌, ◌∙◌, ◌<◌, ◌^◌, ℕ, List, [], ◌∷◌, codes, refl, sym, ap, arith, ArrayVec, differ, AllStandFor, StandsFor, Word, bytes, number, plain, ExchangeFits, IsList, LeftOut, Line, SaidFits, asks, breaks, device, exchange_words, keeps, opens, said_name, said_words, skips, skips_words, times, IsRule, Exchange}
 use Rattle.std.proofs.lemmas.Fmt.{decimal_injective}
 use Rattle.osdp_words.proofs.WordLaws.{has_one_word}
 use Rattle.osdp_tool_test.proofs.Once.{AreNamed}
@@ -61,6 +61,8 @@ one_line (word ∷ given) (opens x) (opens y) h k s t = ap opens (exchange_once 
 one_line (word ∷ given) (asks x) (asks y) h k s t = ap asks (exchange_once IsRule small given x y h k s.1 t.1)
 one_line (word ∷ given) (skips x) (skips y) h k s t = ap skips (skip_once given x y (small x.number h) (small y.number k) s.1 t.1)
 one_line (word ∷ given) (times p) (times q) h k s t = ap times (number_once given p q (small p h) (small q k) s.1 t.1)
+one_line (word ∷ given) (keeps p) (keeps q) h k s t = ap keeps (number_once given p q (small p h) (small q k) s.1 t.1)
+one_line (word ∷ given) (breaks x) (breaks y) h k s t = ap breaks (skip_once given x y (small x.number h) (small y.number k) s.1 t.1)
 one_line (word ∷ given) m n h k s t = absurd (differ (said_name m) (said_name n) refl (sym s.0 ∙ t.0))
 
 no_hash : (m : Line) (word : List ℕ) (others : List (List ℕ)) → AllStandFor (said_words m) ((35 ∷ word) ∷ others) → ⊥
@@ -69,6 +71,8 @@ no_hash (opens x) word others s = differ (35 ∷ word) (codes "opens") refl s.0
 no_hash (asks x) word others s = differ (35 ∷ word) (codes "asks") refl s.0
 no_hash (skips x) word others s = differ (35 ∷ word) (codes "skips") refl s.0
 no_hash (times p) word others s = differ (35 ∷ word) (codes "times") refl s.0
+no_hash (keeps p) word others s = differ (35 ∷ word) (codes "keeps") refl s.0
+no_hash (breaks x) word others s = differ (35 ∷ word) (codes "breaks") refl s.0
 
 pub lines_named : AreNamed said_words SaidFits
 lines_named = record { one = one_line; some = λ m s. s; plain = no_hash }

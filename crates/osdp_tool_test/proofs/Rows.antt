@@ -1,5 +1,5 @@
 -- The lines by their names: what is read after a name is what the line is made of.
-use Rattle.osdp_tool_test.proofs.Common.{◌≡◌, ℕ, codes, refl, differ, LeftOut, Line, asks, device, opens, said_name, skips, times, Exchange}
+use Rattle.osdp_tool_test.proofs.Common.{◌≡◌, ℕ, codes, refl, differ, LeftOut, Line, asks, breaks, device, keeps, opens, said_name, skips, times, Exchange}
 
 pub is_device : (m : Line) → said_name m ≡ codes "device" → (x : ℕ) × (m ≡ device x)
 is_device (device x) e = (x, refl)
@@ -20,3 +20,11 @@ is_times m e = absurd (differ (said_name m) (codes "times") refl e)
 pub is_skips : (m : Line) → said_name m ≡ codes "skips" → (x : LeftOut) × (m ≡ skips x)
 is_skips (skips x) e = (x, refl)
 is_skips m e = absurd (differ (said_name m) (codes "skips") refl e)
+
+pub is_keeps : (m : Line) → said_name m ≡ codes "keeps" → (n : ℕ) × (m ≡ keeps n)
+is_keeps (keeps n) e = (n, refl)
+is_keeps m e = absurd (differ (said_name m) (codes "keeps") refl e)
+
+pub is_breaks : (m : Line) → said_name m ≡ codes "breaks" → (x : LeftOut) × (m ≡ breaks x)
+is_breaks (breaks x) e = (x, refl)
+is_breaks m e = absurd (differ (said_name m) (codes "breaks") refl e)

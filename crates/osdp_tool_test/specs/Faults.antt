@@ -44,6 +44,10 @@ expected_line m aspect = m ++ (codes "expected " ++ (expected aspect ++ codes "\
 abbrev pub heard_line : List ℕ → Exchange → List ℕ
 heard_line m x = m ++ (codes "read " ++ (printed (bytes x.heard.items) ++ (codes " after " ++ (decimal x.delay ++ codes " ms\n"))))
 
+-- what somebody beside the line saw of a rule
+unfoldable pub why_line : Form → List ℕ → List ℕ
+why_line f why = mark f ++ (why ++ codes "\n")
+
 -- what was sent and when, what is expected then, and what was read
 unfoldable pub fault_text : Form → Aspect → Exchange → List ℕ
 fault_text f aspect x = sent_line (mark f) x ++ (expected_line (mark f) aspect ++ heard_line (mark f) x)

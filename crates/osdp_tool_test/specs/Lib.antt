@@ -1,4 +1,3 @@
-pub mod Found
 pub mod Runs
 pub mod Rules
 pub mod Table

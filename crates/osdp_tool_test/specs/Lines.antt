@@ -6,7 +6,7 @@ use Rattle.osdp_words.specs.Word.{Word, bytes, number, plain}
 use Rattle.osdp_tool_test.specs.Rules.{IsRule}
 use Rattle.osdp_tool_test.specs.declared.exchange.Exchange.{Exchange}
 use Rattle.osdp_tool_test.specs.declared.said.Said.{Said}
-use Rattle.osdp_tool_test.specs.declared.said.Said.TheVariants.{Device, Opens, Asks, Skips, Times}
+use Rattle.osdp_tool_test.specs.declared.said.Said.TheVariants.{Device, Opens, Asks, Skips, Times, Keeps, Breaks}
 use Rattle.osdp_tool_test.specs.declared.exchange.Skip.{Skip}
 
 -- as many bytes as a line holds
@@ -57,13 +57,15 @@ SkipsFits IsNumber x = IsNumber x.number
 
 -- ---- the lines of a test of a device
 
--- what a line says; by the times of all answers so far a rule is judged
+-- What a line says. By the times of all answers so far a rule is judged, and what somebody beside the line saw keeps it, or breaks it.
 pub data Line : Type 0 where
   device : ℕ → Line
   opens : Exchange → Line
   asks : Exchange → Line
   skips : LeftOut → Line
   times : ℕ → Line
+  keeps : ℕ → Line
+  breaks : LeftOut → Line
 
 abbrev pub said_of : Said → Line
 said_of (Device address) = device address
@@ -71,6 +73,8 @@ said_of (Opens x) = opens x
 said_of (Asks x) = asks x
 said_of (Skips x) = skips (skip_of x)
 said_of (Times n) = times n
+said_of (Keeps n) = keeps n
+said_of (Breaks x) = breaks (skip_of x)
 
 -- the name of a line, and the words after it
 abbrev pub said_name : Line → List ℕ
@@ -79,6 +83,8 @@ said_name (opens x) = codes "opens"
 said_name (asks x) = codes "asks"
 said_name (skips x) = codes "skips"
 said_name (times n) = codes "times"
+said_name (keeps n) = codes "keeps"
+said_name (breaks x) = codes "breaks"
 
 abbrev pub said_fields : Line → List Word
 said_fields (device address) = number address ∷ []
@@ -86,6 +92,8 @@ said_fields (opens x) = exchange_words x
 said_fields (asks x) = exchange_words x
 said_fields (skips x) = skips_words x
 said_fields (times n) = number n ∷ []
+said_fields (keeps n) = number n ∷ []
+said_fields (breaks x) = skips_words x
 
 abbrev pub said_words : Line → List Word
 said_words said = plain (said_name said) ∷ said_fields said
@@ -96,3 +104,5 @@ SaidFits (opens x) = ExchangeFits IsRule x
 SaidFits (asks x) = ExchangeFits IsRule x
 SaidFits (skips x) = SkipsFits IsRule x
 SaidFits (times n) = IsRule n
+SaidFits (keeps n) = IsRule n
+SaidFits (breaks x) = SkipsFits IsRule x

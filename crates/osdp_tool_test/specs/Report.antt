@@ -8,11 +8,12 @@ use Rattle.osdp_tool_test.specs.declared.report.Counts.{Counts}
 use Rattle.osdp_tool_test.specs.declared.report.Form.{Form}
 use Rattle.osdp_tool_test.specs.declared.report.Form.TheVariants.{Plain, Tap}
 use Rattle.osdp_tool_test.specs.declared.rules.Ground.{Ground}
-use Rattle.osdp_tool_test.specs.declared.rules.Ground.TheVariants.{Asked, Open}
+use Rattle.osdp_tool_test.specs.declared.rules.Ground.TheVariants.{Asked, Open, Habit}
 
 abbrev pub ground_name : Ground → List ℕ
 ground_name Asked = codes "the standard asks it"
 ground_name Open = codes "the standard leaves it open in part"
+ground_name Habit = codes "a habit of most devices"
 
 -- ---- for people
 

@@ -3,7 +3,7 @@ use Rattle.std.specs.Prelude.{ℕ, List, [], ◌∷◌, codes}
 use Rattle.osdp_rules.specs.declared.aspect.Aspect.{Aspect}
 use Rattle.osdp_rules.specs.declared.aspect.Aspect.TheVariants.{Address, Check, Number, Plain, Single, Prompt, Busy, Turn, Repeat, Wrong, Deaf, Quiet, Block, Served, Fit, Read, Code, Length, Listed, Beyond}
 use Rattle.osdp_tool_test.specs.declared.rules.Ground.{Ground}
-use Rattle.osdp_tool_test.specs.declared.rules.Ground.TheVariants.{Asked, Open}
+use Rattle.osdp_tool_test.specs.declared.rules.Ground.TheVariants.{Asked, Open, Habit}
 use Rattle.osdp_tool_test.specs.declared.rules.Rule.{Rule}
 
 -- what a rule looks at, what asks for it, and what it says
@@ -74,13 +74,13 @@ device_rules =
     ∷ (Read, Asked, codes "LSTATR has two bytes of data")
     ∷ (Code, Asked, codes "the unknown code 00 is refused by NAK 3")
     ∷ (Code, Asked, codes "the unknown code 5F is refused by NAK 3")
-    ∷ (Length, Asked, codes "a POLL with data is refused by NAK 2")
-    ∷ (Length, Asked, codes "an ID without data is refused by NAK 2")
-    ∷ (Length, Asked, codes "a CAP without data is refused by NAK 2")
-    ∷ (Length, Asked, codes "an LSTAT with data is refused by NAK 2")
-    ∷ (Length, Asked, codes "an ISTAT with data is refused by NAK 2")
-    ∷ (Length, Asked, codes "an OSTAT with data is refused by NAK 2")
-    ∷ (Length, Asked, codes "an RSTAT with data is refused by NAK 2")
+    ∷ (Length, Habit, codes "a POLL with data is refused by NAK 2")
+    ∷ (Length, Habit, codes "an ID without data is refused by NAK 2")
+    ∷ (Length, Habit, codes "a CAP without data is refused by NAK 2")
+    ∷ (Length, Habit, codes "an LSTAT with data is refused by NAK 2")
+    ∷ (Length, Habit, codes "an ISTAT with data is refused by NAK 2")
+    ∷ (Length, Habit, codes "an OSTAT with data is refused by NAK 2")
+    ∷ (Length, Habit, codes "an RSTAT with data is refused by NAK 2")
     ∷ (Length, Asked, codes "an OUT of three bytes is refused by NAK 2")
     ∷ (Length, Asked, codes "an LED of thirteen bytes is refused by NAK 2")
     ∷ (Length, Asked, codes "a BUZ of four bytes is refused by NAK 2")
@@ -101,4 +101,26 @@ device_rules =
     ∷ (Code, Asked, codes "an unknown code that fills CAP's receive buffer is refused by NAK 3")
     ∷ (Turn, Asked, codes "after a packet larger than CAP's receive buffer number 0 is taken")
     ∷ (Prompt, Asked, codes "each answer of the run begins within 200 ms")
+    ∷ (Turn, Asked, codes "after an unknown code the next number is taken")
+    ∷ (Turn, Asked, codes "after a wrong length the next number is taken")
+    ∷ (Turn, Asked, codes "after an order to what CAP does not tell the next number is taken")
+    ∷ (Turn, Asked, codes "after a packet that came again the next number is taken")
+    ∷ (Deaf, Asked, codes "a CRC whose first byte is wrong is not answered")
+    ∷ (Deaf, Asked, codes "a packet whose length is 0 to 6 is not answered")
+    ∷ (Quiet, Asked, codes "a packet to 0 or to an address that differs in one bit is not answered")
+    ∷ (Listed, Asked, codes "PDCAP tells each function once, and none that has number 0")
+    ∷ (Repeat, Asked, codes "a card, key or input that comes again comes in the same bytes")
+    ∷ (Repeat, Asked, codes "a card, key or input that was told is not told again")
+    ∷ (Repeat, Asked, codes "an OUT that comes twice is done once")
+    ∷ (Turn, Asked, codes "the device answers to the end of the run")
+    ∷ (Address, Asked, codes "each answer of the run has the address of its packet")
+    ∷ (Check, Asked, codes "each answer of the run has the check of its packet")
+    ∷ (Number, Asked, codes "each answer of the run has the number of its packet")
+    ∷ (Turn, Asked, codes "no right number of the run is refused by NAK 4")
+    ∷ (Read, Asked, codes "each answer of the run has as many bytes as its code asks")
+    ∷ (Fit, Asked, codes "each answer of the run answers its command")
+    ∷ (Repeat, Asked, codes "each packet of the run that comes again has the answer that it had")
+    ∷ (Quiet, Asked, codes "nothing of the run that is not to the device is answered")
+    ∷ (Deaf, Asked, codes "no bytes of the run that hold no packet are answered")
+    ∷ (Single, Asked, codes "each packet of the run has one answer")
     ∷ []

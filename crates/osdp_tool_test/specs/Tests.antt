@@ -4,14 +4,15 @@ use Rattle.osdp_frame.specs.Packet.{Packet}
 use Rattle.osdp_rules.specs.Claims.{claims_after, no_claims}
 use Rattle.osdp_rules.specs.Delays.{delays_finding}
 use Rattle.osdp_rules.specs.Known.{known_after}
+use Rattle.osdp_rules.specs.Showing.{shown}
 use Rattle.osdp_rules.specs.declared.claims.Claims.{Claims}
 use Rattle.osdp_rules.specs.declared.finding.Finding.{Finding}
+use Rattle.osdp_rules.specs.declared.finding.Finding.TheVariants.{Kept, Broken}
 use Rattle.osdp_rules.specs.declared.known.Known.{Known}
 use Rattle.osdp_rules.specs.declared.known.Known.TheVariants.{Unknown}
-use Rattle.osdp_tool_test.specs.Entries.{Told, after_finding, new_entry, told, with_finding}
-use Rattle.osdp_tool_test.specs.Faults.{fault_text}
-use Rattle.osdp_tool_test.specs.Found.{shown}
-use Rattle.osdp_tool_test.specs.Lines.{LeftOut, Line, SaidFits, asks, device, opens, said_words, skips, times}
+use Rattle.osdp_tool_test.specs.Entries.{Told, after_finding, after_shown, by_ground, new_entry, told, with_finding}
+use Rattle.osdp_tool_test.specs.Faults.{fault_text, why_line}
+use Rattle.osdp_tool_test.specs.Lines.{LeftOut, Line, SaidFits, asks, breaks, device, keeps, opens, said_words, skips, times}
 use Rattle.osdp_tool_test.specs.Saying.{IsFirstBad, LinesFind, RefusesSaid, ShowsByRows, TakesSaid}
 use Rattle.osdp_tool_test.specs.Rules.{rule_in}
 use Rattle.osdp_tool_test.specs.Seen.{Seen, is_answered, seen_in}
@@ -79,7 +80,7 @@ abbrev pub found_in : Rule → Seen → DeviceTest → Finding
 found_in rule s t = shown rule.aspect t.address t.known t.claims s.packet s.answer s.count s.delay
 
 abbrev pub judged_entry : Bool → Exchange → Rule → Seen → DeviceTest → Told → Told
-judged_entry true x rule s t e = after_finding (found_in rule s t) (fault_text t.form rule.aspect x) e
+judged_entry true x rule s t e = after_shown (by_ground rule.ground (found_in rule s t)) (fault_text t.form rule.aspect x) e
 judged_entry false x rule s t e = e
 
 abbrev pub known_next : ℕ → Option Packet → Option Packet → Known → Known
@@ -129,6 +130,18 @@ abbrev pub after_times : ℕ → Option Rule → DeviceTest → DeviceTest
 after_times n None t = t
 after_times n (Some rule) t = with_entry n rule (timed_entry t.form t.run) t
 
+-- a rule of which somebody beside the line saw that it is kept, or what breaks it
+abbrev pub after_keeps : ℕ → Option Rule → DeviceTest → DeviceTest
+after_keeps n None t = t
+after_keeps n (Some rule) t = with_entry n rule (with_finding Kept) t
+
+abbrev pub broken_entry : Form → List ℕ → Told → Told
+broken_entry form why e = after_finding Broken (why_line form why) e
+
+abbrev pub after_breaks : LeftOut → Option Rule → DeviceTest → DeviceTest
+after_breaks x None t = t
+after_breaks x (Some rule) t = with_entry x.number rule (broken_entry t.form x.why) t
+
 abbrev pub after_said : Option Line → DeviceTest → DeviceTest
 after_said None t = t
 after_said (Some (device address)) t = record t { address = address }
@@ -136,6 +149,8 @@ after_said (Some (opens x)) t = after_exchange false x (rule_in t.rules x.number
 after_said (Some (asks x)) t = after_exchange true x (rule_in t.rules x.number) t
 after_said (Some (skips x)) t = left_out x (rule_in t.rules x.number) t
 after_said (Some (times n)) t = after_times n (rule_in t.rules n) t
+after_said (Some (keeps n)) t = after_keeps n (rule_in t.rules n) t
+after_said (Some (breaks x)) t = after_breaks x (rule_in t.rules x.number) t
 
 -- all rules whose lines were read
 abbrev pub entries_with : List Told → Option Told → List Told

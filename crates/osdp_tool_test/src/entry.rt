@@ -1,7 +1,7 @@
 //! What was found of a rule.
 
 ghost use Rattle.std.specs.Prelude.{◌≡◌, OnOk, string_bytes};
-ghost use Rattle.osdp_tool_test.specs.Entries.{is_first_break, new_entry, outcome_of, told, with_finding};
+ghost use Rattle.osdp_tool_test.specs.Entries.{is_first_break, is_first_open, new_entry, outcome_of, told, with_finding};
 
 use crate::rules::Ground;
 use osdp_rules::{Finding, Verdict};
@@ -69,6 +69,16 @@ impl Entry {
             Verdict::Ok => Outcome::Ok,
             Verdict::Either => Outcome::Either,
             Verdict::Broken => Outcome::Broken,
+        }
+    }
+
+    /// Whether a finding leaves the rule open, and none did before.
+    pub(crate) fn is_first_open(&self, found: Finding) -> bool
+        ensures { result ≡ is_first_open self.now.verdict found }
+    {
+        match (self.verdict, found) {
+            (Verdict::Unclear | Verdict::Ok, Finding::Either) => true,
+            _ => false,
         }
     }
 

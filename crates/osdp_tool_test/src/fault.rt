@@ -1,7 +1,7 @@
 //! The lines of what broke a rule.
 
 ghost use Rattle.std.specs.Prelude.{◌≡◌, ◌++◌, OnOk, string_bytes};
-ghost use Rattle.osdp_tool_test.specs.Faults.{expected, fault_text, mark};
+ghost use Rattle.osdp_tool_test.specs.Faults.{expected, fault_text, mark, why_line};
 
 use crate::exchange::Exchange;
 use crate::report::Form;
@@ -45,6 +45,15 @@ pub fn mark(form: Form) -> &'static str
         Form::Plain => "  ",
         Form::Tap => "# ",
     }
+}
+
+/// Writes the line of what somebody beside the line saw.
+#[tactic(auto, unfolding(crate::specs::Faults::why_line))]
+pub(crate) fn push_why(text: &mut String, form: Form, why: &str) -> Result<(), AllocError>
+    ensures { OnOk result (string_bytes text.new ≡ string_bytes text.old ++ why_line form why.now) }
+{
+    let mark = mark(form);
+    writeln!(text, "{mark}{why}")
 }
 
 /// Writes the lines of an exchange that broke a rule.

@@ -5,7 +5,6 @@ mod command;
 mod entry;
 mod exchange;
 mod fault;
-mod found;
 mod judging;
 mod laws;
 mod report;

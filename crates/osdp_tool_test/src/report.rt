@@ -81,6 +81,7 @@ fn ground_name(ground: Ground) -> &'static str
     match ground {
         Ground::Asked => "the standard asks it",
         Ground::Open => "the standard leaves it open in part",
+        Ground::Habit => "a habit of most devices",
     }
 }
 

@@ -1,9 +1,10 @@
 //! The rules, each with what it looks at and what asks for it.
 
 ghost use Rattle.std.specs.Prelude.{◌≡◌};
+ghost use Rattle.osdp_tool_test.specs.Entries.{by_ground};
 ghost use Rattle.osdp_tool_test.specs.Rules.{rule_in};
 
-use osdp_rules::Aspect;
+use osdp_rules::{Aspect, Finding};
 
 /// What asks for a rule.
 #[derive(Clone, Copy)]
@@ -12,6 +13,8 @@ pub enum Ground {
     Asked,
     /// The standard leaves it open: what else is done is told.
     Open,
+    /// Most devices do it, and the standard doesn't ask it: what else is done is told, and breaks nothing.
+    Habit,
 }
 
 /// A rule.
@@ -26,7 +29,7 @@ pub struct Rule {
 }
 
 /// The rules; they are numbered from 1.
-pub const RULES: [Rule; 85] = [
+pub const RULES: [Rule; 107] = [
     Rule {
         aspect: Aspect::Address,
         ground: Ground::Asked,
@@ -319,37 +322,37 @@ pub const RULES: [Rule; 85] = [
     },
     Rule {
         aspect: Aspect::Length,
-        ground: Ground::Asked,
+        ground: Ground::Habit,
         says: "a POLL with data is refused by NAK 2",
     },
     Rule {
         aspect: Aspect::Length,
-        ground: Ground::Asked,
+        ground: Ground::Habit,
         says: "an ID without data is refused by NAK 2",
     },
     Rule {
         aspect: Aspect::Length,
-        ground: Ground::Asked,
+        ground: Ground::Habit,
         says: "a CAP without data is refused by NAK 2",
     },
     Rule {
         aspect: Aspect::Length,
-        ground: Ground::Asked,
+        ground: Ground::Habit,
         says: "an LSTAT with data is refused by NAK 2",
     },
     Rule {
         aspect: Aspect::Length,
-        ground: Ground::Asked,
+        ground: Ground::Habit,
         says: "an ISTAT with data is refused by NAK 2",
     },
     Rule {
         aspect: Aspect::Length,
-        ground: Ground::Asked,
+        ground: Ground::Habit,
         says: "an OSTAT with data is refused by NAK 2",
     },
     Rule {
         aspect: Aspect::Length,
-        ground: Ground::Asked,
+        ground: Ground::Habit,
         says: "an RSTAT with data is refused by NAK 2",
     },
     Rule {
@@ -452,7 +455,127 @@ pub const RULES: [Rule; 85] = [
         ground: Ground::Asked,
         says: "each answer of the run begins within 200 ms",
     },
+    Rule {
+        aspect: Aspect::Turn,
+        ground: Ground::Asked,
+        says: "after an unknown code the next number is taken",
+    },
+    Rule {
+        aspect: Aspect::Turn,
+        ground: Ground::Asked,
+        says: "after a wrong length the next number is taken",
+    },
+    Rule {
+        aspect: Aspect::Turn,
+        ground: Ground::Asked,
+        says: "after an order to what CAP does not tell the next number is taken",
+    },
+    Rule {
+        aspect: Aspect::Turn,
+        ground: Ground::Asked,
+        says: "after a packet that came again the next number is taken",
+    },
+    Rule {
+        aspect: Aspect::Deaf,
+        ground: Ground::Asked,
+        says: "a CRC whose first byte is wrong is not answered",
+    },
+    Rule {
+        aspect: Aspect::Deaf,
+        ground: Ground::Asked,
+        says: "a packet whose length is 0 to 6 is not answered",
+    },
+    Rule {
+        aspect: Aspect::Quiet,
+        ground: Ground::Asked,
+        says: "a packet to 0 or to an address that differs in one bit is not answered",
+    },
+    Rule {
+        aspect: Aspect::Listed,
+        ground: Ground::Asked,
+        says: "PDCAP tells each function once, and none that has number 0",
+    },
+    Rule {
+        aspect: Aspect::Repeat,
+        ground: Ground::Asked,
+        says: "a card, key or input that comes again comes in the same bytes",
+    },
+    Rule {
+        aspect: Aspect::Repeat,
+        ground: Ground::Asked,
+        says: "a card, key or input that was told is not told again",
+    },
+    Rule {
+        aspect: Aspect::Repeat,
+        ground: Ground::Asked,
+        says: "an OUT that comes twice is done once",
+    },
+    Rule {
+        aspect: Aspect::Turn,
+        ground: Ground::Asked,
+        says: "the device answers to the end of the run",
+    },
+    Rule {
+        aspect: Aspect::Address,
+        ground: Ground::Asked,
+        says: "each answer of the run has the address of its packet",
+    },
+    Rule {
+        aspect: Aspect::Check,
+        ground: Ground::Asked,
+        says: "each answer of the run has the check of its packet",
+    },
+    Rule {
+        aspect: Aspect::Number,
+        ground: Ground::Asked,
+        says: "each answer of the run has the number of its packet",
+    },
+    Rule {
+        aspect: Aspect::Turn,
+        ground: Ground::Asked,
+        says: "no right number of the run is refused by NAK 4",
+    },
+    Rule {
+        aspect: Aspect::Read,
+        ground: Ground::Asked,
+        says: "each answer of the run has as many bytes as its code asks",
+    },
+    Rule {
+        aspect: Aspect::Fit,
+        ground: Ground::Asked,
+        says: "each answer of the run answers its command",
+    },
+    Rule {
+        aspect: Aspect::Repeat,
+        ground: Ground::Asked,
+        says: "each packet of the run that comes again has the answer that it had",
+    },
+    Rule {
+        aspect: Aspect::Quiet,
+        ground: Ground::Asked,
+        says: "nothing of the run that is not to the device is answered",
+    },
+    Rule {
+        aspect: Aspect::Deaf,
+        ground: Ground::Asked,
+        says: "no bytes of the run that hold no packet are answered",
+    },
+    Rule {
+        aspect: Aspect::Single,
+        ground: Ground::Asked,
+        says: "each packet of the run has one answer",
+    },
 ];
+
+/// What is found of a rule by what asks for it: what is a habit alone is left open where another one would be broken.
+pub(crate) fn by_ground(ground: Ground, found: Finding) -> Finding
+    ensures { result ≡ by_ground ground found }
+{
+    match (ground, found) {
+        (Ground::Habit, Finding::Broken) => Finding::Either,
+        _ => found,
+    }
+}
 
 /// How many there are.
 pub(crate) const COUNT: u8 = RULES.len() as u8;

@@ -23,10 +23,14 @@ pub(crate) enum Said<'a> {
     Skips(Skip<'a>),
     /// The rule of this number is judged by the times of all answers so far.
     Times(u8),
+    /// Somebody beside the line saw that the rule of this number is kept.
+    Keeps(u8),
+    /// .. or what breaks it.
+    Breaks(Skip<'a>),
 }
 
-/// The rule that is judged by the times of all answers so far.
-fn parse_times(words: &[&str]) -> Option<u8>
+/// The number of a rule, alone.
+fn parse_number(words: &[&str]) -> Option<u8>
     ensures { ReadsWords (λ n. number n ∷ []) IsRule (texts words.now) result }
 {
     let [word] = words else {
@@ -44,7 +48,9 @@ fn parse_row<'a>(name: &str, words: &[&'a str]) -> Option<Said<'a>>
         "opens" => Some(Said::Opens(parse_exchange(words, 1, COUNT)?)),
         "asks" => Some(Said::Asks(parse_exchange(words, 1, COUNT)?)),
         "skips" => Some(Said::Skips(parse_skip(words, COUNT)?)),
-        "times" => Some(Said::Times(parse_times(words)?)),
+        "times" => Some(Said::Times(parse_number(words)?)),
+        "keeps" => Some(Said::Keeps(parse_number(words)?)),
+        "breaks" => Some(Said::Breaks(parse_skip(words, COUNT)?)),
         _ => None,
     }
 }

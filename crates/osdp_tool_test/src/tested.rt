@@ -1,24 +1,23 @@
 //! A device under test, line by line.
 
 ghost use Rattle.std.specs.Prelude.{◌≡◌, ◌==◌, Some, None, map, option_map, IfOk, OnOk};
-ghost use Rattle.osdp_tool_test.specs.Entries.{after_finding, told};
+ghost use Rattle.osdp_tool_test.specs.Entries.{after_shown, told};
 ghost use Rattle.osdp_tool_test.specs.Faults.{fault_text};
 ghost use Rattle.osdp_tool_test.specs.Lines.{said_of, skip_of};
 ghost use Rattle.osdp_tool_test.specs.Rules.{rule_in};
 ghost use Rattle.osdp_tool_test.specs.Seen.{in_a_row, seen};
-ghost use Rattle.osdp_tool_test.specs.Tests.{after_each, after_exchange, after_said, after_seen, after_times, all_entries, begun_done, begun_entry, left_out, model, new_test, with_entry, with_known, with_run};
+ghost use Rattle.osdp_tool_test.specs.Tests.{after_breaks, after_each, after_exchange, after_keeps, after_said, after_seen, after_times, all_entries, begun_done, begun_entry, left_out, model, new_test, with_entry, with_known, with_run};
 
 use crate::entry::Entry;
 use crate::exchange::{Exchange, Skip};
-use crate::fault::push_fault;
-use crate::found::{Heard, shown};
+use crate::fault::{push_fault, push_why};
 use crate::report::Form;
-use crate::rules::{Rule, rule_of};
+use crate::rules::{Rule, by_ground, rule_of};
 use crate::runs::{Found, packets};
 use crate::said::Said;
 use crate::times::Times;
 use osdp_frame::Address;
-use osdp_rules::{Claims, Finding, Known};
+use osdp_rules::{Claims, Finding, Heard, Known, shown};
 use std::alloc::{AllocError, Global};
 use std::mem::replace;
 
@@ -89,10 +88,12 @@ impl Tested {
     /// What an exchange shows goes into the verdict on its rule.
     fn ask(&mut self, exchange: &Exchange, rule: Rule, found: Finding) -> Result<(), AllocError>
         ensures { OnOk result (model self.new ≡ with_entry exchange.now.number rule
-            (after_finding found (fault_text self.old.form rule.aspect exchange.now)) (model self.old)) }
+            (after_shown found (fault_text self.old.form rule.aspect exchange.now)) (model self.old)) }
     {
         let mut entry = self.take_entry(usize::from(exchange.number), rule)?;
-        if entry.judge(found) {
+        let is_open = entry.is_first_open(found);
+        let is_broken = entry.judge(found);
+        if is_broken || is_open {
             push_fault(&mut entry.fault, self.form, rule.aspect, exchange)?;
         }
         self.current = Some(entry);
@@ -125,7 +126,7 @@ impl Tested {
     {
         if is_asked {
             let found = shown(rule.aspect, self.address, &self.known, &self.claims, heard);
-            self.ask(exchange, rule, found)?;
+            self.ask(exchange, rule, by_ground(rule.ground, found))?;
         } else {
             self.open(usize::from(exchange.number), rule)?;
         }
@@ -229,6 +230,36 @@ impl Tested {
         Ok(())
     }
 
+    /// Somebody beside the line saw that a rule is kept.
+    fn keep(&mut self, number: u8) -> Result<(), AllocError>
+        ensures { OnOk result (model self.new ≡ after_keeps number (rule_in self.old.rules.now number) (model self.old)) }
+    {
+        let number = usize::from(number);
+        let Some(rule) = rule_of(self.rules, number) else {
+            return Ok(());
+        };
+        let mut entry = self.take_entry(number, rule)?;
+        let _is_first = entry.judge(Finding::Kept);
+        self.current = Some(entry);
+        Ok(())
+    }
+
+    /// .. or what breaks it.
+    fn take_break(&mut self, seen: Skip<'_>) -> Result<(), AllocError>
+        ensures { OnOk result (model self.new ≡ after_breaks (skip_of seen.entry) (rule_in self.old.rules.now seen.entry.number) (model self.old)) }
+    {
+        let number = usize::from(seen.number);
+        let Some(rule) = rule_of(self.rules, number) else {
+            return Ok(());
+        };
+        let mut entry = self.take_entry(number, rule)?;
+        if entry.judge(Finding::Broken) {
+            push_why(&mut entry.fault, self.form, seen.why)?;
+        }
+        self.current = Some(entry);
+        Ok(())
+    }
+
     /// What a line says.
     pub(crate) fn take_said(&mut self, said: &Said<'_>) -> Result<(), AllocError>
         ensures { OnOk result (model self.new ≡ after_said (Some (said_of said.now)) (model self.old)) }
@@ -242,6 +273,8 @@ impl Tested {
             Said::Asks(exchange) => self.take(exchange, true),
             Said::Skips(skip) => self.skip(*skip),
             Said::Times(number) => self.take_times(*number),
+            Said::Keeps(number) => self.keep(*number),
+            Said::Breaks(seen) => self.take_break(*seen),
         }
     }
 

@@ -31,7 +31,7 @@ map_alike change other alike (e ∷ entries) =
 packet_same : (x : Exchange) (o : Option Packet) (t : PanelTest) → plainly (after_packet_of x o t) ≡ after_packet_of x o (plainly t)
 packet_same x None t = refl
 packet_same x (Some p) t =
-    ap (λ (entries : List Told). record (plainly t) { entries = entries; known = after_packet t.address t.known p })
+    ap (λ (entries : List Told). record (plainly t) { entries = entries; known = after_packet t.address x.moment t.known p })
     (map_alike (judged_entry t.form t.rules t.address t.known t.before p x) (judged_entry t.form (all_plain row of_row t.rules) t.address t.known t.before p x)
     (λ e. judged_same t.form t.address t.known t.before p x e (rule_in t.rules e.number)
     ∙ ap (judged_by t.form t.address t.known t.before p x e) (sym (plain_rule row of_row t.rules e.number))) t.entries)

@@ -4,3 +4,4 @@ pub mod Rows
 pub mod Parts
 mod OneLine
 mod ByRows
+mod TheLine

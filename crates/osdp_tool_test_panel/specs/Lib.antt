@@ -3,3 +3,4 @@ pub mod Table
 pub mod Lines
 pub mod Faults
 pub mod Tests
+pub mod TheLine

@@ -51,6 +51,6 @@ panel_rules =
     ∷ (Busy, Asked, false, codes "a second BUSY is no answer")
     ∷ (Busy, Asked, false, codes "BUSY with the number of its packet is no answer")
     ∷ (Damage, Open, false, codes "after NAK 1 the packet comes again")
-    ∷ (Refusal, Asked, false, codes "after NAK 4 a session begins with number 0")
+    ∷ (Refusal, Asked, true, codes "after NAK 4 a session begins with number 0")
     ∷ (Lapse, Asked, false, codes "after 8 seconds of silence a session begins with number 0")
     ∷ []

@@ -1,5 +1,5 @@
 -- A test of a panel: what each line adds to it.
-use Rattle.std.specs.Prelude.{ℕ, ◌-◌, ◌==◌, ◌||◌, false, if◌then◌else◌, List, [], ◌∷◌, map, Option, Some, None}
+use Rattle.std.specs.Prelude.{ℕ, ◌==◌, ◌||◌, false, if◌then◌else◌, List, [], ◌∷◌, map, Option, Some, None}
 use Rattle.osdp_frame.specs.Packet.{Packet}
 use Rattle.osdp_panel_rules.specs.Judging.{judged}
 use Rattle.osdp_panel_rules.specs.Known.{after_noise, after_packet, after_said as said_after, nothing_known}
@@ -40,17 +40,12 @@ abbrev pub asked_for : Option Exchange → ℕ
 asked_for None = 0
 asked_for (Some x) = x.number
 
--- how long after the one before it came
-abbrev pub waited : Option Exchange → ℕ → ℕ
-waited None moment = 0
-waited (Some x) moment = moment - x.moment
-
 -- a rule that is judged by all packets, or the one for which the device spoke before this one
 abbrev pub judged_by : Form → ℕ → Known → Option Exchange → Packet → Exchange → Told → Option PanelRule → Told
 judged_by form address known before p x e None = e
 judged_by form address known before p x e (Some rule) =
     if rule.is_always || e.number == asked_for before
-    then after_finding (judged rule.aspect address known p (waited before x.moment)) (fault_text form rule.aspect before x) e
+    then after_finding (judged rule.aspect address known p x.moment) (fault_text form rule.aspect before x) e
     else e
 
 abbrev pub judged_entry : Form → List PanelRule → ℕ → Known → Option Exchange → Packet → Exchange → Told → Told
@@ -60,7 +55,7 @@ judged_entry form rules address known before p x e = judged_by form address know
 abbrev pub after_packet_of : Exchange → Option Packet → PanelTest → PanelTest
 after_packet_of x None t = t
 after_packet_of x (Some p) t =
-    record t { entries = map (judged_entry t.form t.rules t.address t.known t.before p x) t.entries; known = after_packet t.address t.known p }
+    record t { entries = map (judged_entry t.form t.rules t.address t.known t.before p x) t.entries; known = after_packet t.address x.moment t.known p }
 
 -- ---- what the device says
 
@@ -77,6 +72,10 @@ after_hearing bytes t = record t { known = after_bytes bytes t.known }
 
 -- ---- a line
 
+-- the device gets an address: what was before counts no more
+abbrev pub after_naming : ℕ → PanelTest → PanelTest
+after_naming address t = record t { address = address; known = nothing_known; before = None }
+
 abbrev pub after_exchange : Exchange → PanelTest → PanelTest
 after_exchange x t =
     record (after_hearing x.heard.items (after_packet_of x (first_of (packets_of false x.sent.items)) t)) { before = Some x }
@@ -86,7 +85,7 @@ skipped_entry x e = if e.number == x.number then record e { skipped = x.why } el
 
 abbrev pub after_said : Option Line → PanelTest → PanelTest
 after_said None t = t
-after_said (Some (device address)) t = record t { address = address }
+after_said (Some (device address)) t = after_naming address t
 after_said (Some (hears x)) t = after_exchange x t
 after_said (Some (says x)) t = after_hearing x.said.items t
 after_said (Some (skips x)) t = record t { entries = map (skipped_entry x) t.entries }

@@ -9,5 +9,5 @@ mod said;
 mod tested;
 
 pub use command::test_panel;
-pub use laws::{ends_by_its_lines, ends_in_turn};
+pub use laws::{ends_by_its_lines, ends_in_turn, tells_by_the_line};
 pub use rules::{PANEL_RULES, PanelRule};

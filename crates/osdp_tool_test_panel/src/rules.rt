@@ -231,7 +231,7 @@ pub const PANEL_RULES: [PanelRule; 37] = [
     PanelRule {
         aspect: Aspect::Refusal,
         ground: Ground::Asked,
-        is_always: false,
+        is_always: true,
         says: "after NAK 4 a session begins with number 0",
     },
     PanelRule {

@@ -5,7 +5,7 @@ ghost use Rattle.osdp_tool_test.specs.Entries.{told};
 ghost use Rattle.osdp_tool_test.specs.Lines.{skip_of};
 ghost use Rattle.osdp_tool_test_panel.specs.Lines.{said_of};
 ghost use Rattle.osdp_tool_test_panel.specs.Rules.{fresh_from};
-ghost use Rattle.osdp_tool_test_panel.specs.Tests.{after_bytes, after_exchange, after_hearing, after_packet_of, after_said, asked_for, judged_entry, model, new_test, skipped_entry, waited};
+ghost use Rattle.osdp_tool_test_panel.specs.Tests.{after_bytes, after_exchange, after_hearing, after_packet_of, after_naming, after_said, asked_for, judged_entry, model, new_test, skipped_entry};
 
 use crate::fault::push_fault;
 use crate::rules::PanelRule;
@@ -39,16 +39,6 @@ fn asked_for(before: &Option<Exchange>) -> u8
     }
 }
 
-/// How many milliseconds after the one before a packet came.
-fn waited(before: &Option<Exchange>, moment: u64) -> u64
-    ensures { result ≡ waited before.now moment }
-{
-    match before {
-        Some(last) => moment.saturating_sub(last.moment),
-        None => 0,
-    }
-}
-
 /// Judges a rule by a packet, where it is judged by all packets, or where the device spoke for it before this one.
 fn judge_entry(
     entry: &mut Entry,
@@ -68,8 +58,7 @@ fn judge_entry(
     if !rule.is_always && entry.number != usize::from(asked_for(before)) {
         return Ok(());
     }
-    let wait = waited(before, exchange.moment);
-    let found = judged(rule.aspect, address, known, packet, wait);
+    let found = judged(rule.aspect, address, known, packet, exchange.moment);
     if entry.judge(found) {
         push_fault(&mut entry.fault, form, rule.aspect, before, exchange)?;
     }
@@ -163,6 +152,15 @@ impl Tested {
         })
     }
 
+    /// The device gets an address: what was before counts no more.
+    fn name(&mut self, address: Address)
+        ensures { model self.new ≡ after_naming address (model self.old) }
+    {
+        self.address = address;
+        self.known = Known::nothing();
+        self.before = None;
+    }
+
     /// The device has said bytes.
     fn hear(&mut self, said: &[u8])
         ensures { model self.new ≡ after_hearing said.now (model self.old) }
@@ -186,7 +184,7 @@ impl Tested {
             exchange,
         )?;
         let known = replace(&mut self.known, Known::nothing());
-        self.known = known.after_packet(self.address, packet);
+        self.known = known.after_packet(self.address, packet, exchange.moment);
         Ok(())
     }
 
@@ -208,7 +206,7 @@ impl Tested {
         ensures { OnOk result (model self.new ≡ after_said (Some (said_of said.entry)) (model self.old)) }
     {
         match said {
-            Said::Device(address) => self.address = address,
+            Said::Device(address) => self.name(address),
             Said::Hears(exchange) => self.take(exchange)?,
             Said::Says(more) => self.hear(more.said.as_slice()),
             Said::Skips(skip) => skip_in(self.entries.as_mut_slice(), skip)?,

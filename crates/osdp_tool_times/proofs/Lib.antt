@@ -1,6 +1,7 @@
 pub mod Common
 pub mod Numbers
 pub mod Steps
+pub mod Lists
 pub mod Exchanges
 pub mod Busy
 pub mod GoingBack

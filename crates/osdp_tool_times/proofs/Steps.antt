@@ -1,7 +1,7 @@
 -- The step of a rank.
 use Rattle.osdp_tool_times.proofs.Common.{◌≡◌, ℕ, suc, ◌+◌, ◌-◌, ◌*◌, ◌≤◌, ◌<◌, ◌⊎◌, inl, inr, Bool, true, false, cond, List, [], ◌∷◌, length, drop, take, sum, subst, refl, sym, ap, ◌∙◌, arith, le-leb, leb-false, leb-true, lt-leb, at_drop_more, drop_all, one_more}
 use Rattle.std.proofs.lemmas.List.Sums.{sum_by-cons}
-use Rattle.std.specs.Prelude.{get_or, nat_le}
+use Rattle.std.specs.Prelude.{zero, get_or, nat_le}
 use Rattle.osdp_tool_times.specs.Times.{below, step_at}
 use Rattle.osdp_tool_times.specs.TimesLaws.{CountsThoseBelow, TellsTheLongest}
 
@@ -71,3 +71,20 @@ the_longest time t = by (nat_le time t.took) refl
         → (time ≤ cond c t.took time) × (t.took ≤ cond c t.took time) × ((cond c t.took time ≡ time) ⊎ (cond c t.took time ≡ t.took))
     by true is = (leb-true time t.took is, omega arith, inr refl)
     by false is = let less = leb-false time t.took is in (omega arith, omega (arith, less), inl refl)
+
+-- those of the steps before the one of a rank are fewer than the rank says
+pub before : (k rank : ℕ) (counts : List ℕ) → 0 < rank → k ≤ step_at rank counts → sum (take k counts) < rank
+before zero rank counts some within = some
+before (suc k) rank [] some within = some
+before (suc k) rank (count ∷ counts) some within = by (nat_le rank count) refl (before k (rank - count) counts)
+  where
+    by : (b : Bool) → nat_le rank count ≡ b → (0 < rank - count → k ≤ step_at (rank - count) counts → sum (take k counts) < rank - count)
+        → sum (take (suc k) (count ∷ counts)) < rank
+    by true is rest =
+        let here : step_at rank (count ∷ counts) ≡ 0 = more rank count counts ∙ ap (λ b. cond b 0 (step_at (rank - count) counts + 1)) is in
+        absurd (omega (arith, here, within))
+    by false is rest =
+        let there : step_at rank (count ∷ counts) ≡ step_at (rank - count) counts + 1 = more rank count counts ∙ ap (λ b. cond b 0 (step_at (rank - count) counts + 1)) is in
+        let past : count < rank = leb-false rank count is in
+        let fewer = rest (omega (arith, past)) (omega (arith, there, within)) in
+        omega (arith, fewer, past, sum_by-cons (λ x. x) count (take k counts))

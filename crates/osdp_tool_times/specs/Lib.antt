@@ -10,4 +10,5 @@ pub mod Laws
 pub mod PresenceLaws
 pub mod MomentLaws
 pub mod TimesLaws
+pub mod ListLaws
 pub mod BusyLaws

@@ -5,6 +5,7 @@ ghost use Rattle.osdp_tool_times.specs.DayTime.{ComesAgain, TellsMomentsApart};
 ghost use Rattle.osdp_tool_times.specs.MomentLaws.{PlacesTheFirst, TellsDays, TellsEachWay, TellsSeconds};
 ghost use Rattle.osdp_tool_times.specs.PresenceLaws.{CountsARowOnce, CountsRestarts, HearsFurtherAnswers, TellsOffline, TellsOnline};
 ghost use Rattle.osdp_tool_times.specs.Laws.{NeverTellsLate, TellsLate, TellsLateCopies, TellsLateFurther, TellsLateSeconds, TellsNothingBefore};
+ghost use Rattle.osdp_tool_times.specs.ListLaws.{TellsTheLongestLate, TellsTimesOfAList};
 ghost use Rattle.osdp_tool_times.specs.TimesLaws.{CountsThoseBelow, TellsTheLongest};
 
 /// A device that answers each packet before the panel sends its next one is never told late.
@@ -41,6 +42,14 @@ pub fn tells_nothing_before()
 pub fn tells_answer_times()
     ensures longest { TellsTheLongest }
     ensures below { CountsThoseBelow }
+{}
+
+/// What is told of the answers of a device is that of the list of their times: how many, the longest, and that half of them, and 95 of 100, took less than is told. The
+/// longest of late answers is that of their list. It is so of 1 to 2^64 - 1 answers, which all take less than 2^64 - 1 milliseconds.
+#[tactic(auto, using(crate::proofs::Lists::times_of_a_list, crate::proofs::Lists::longest_late_is))]
+pub fn tells_times_of_a_list()
+    ensures times { TellsTimesOfAList }
+    ensures late { TellsTheLongestLate }
 {}
 
 /// A comment tells the moment of its stamp, whichever way its burst went: seconds with their thousandths, or a day and a time of it. It is that of the first packet below,

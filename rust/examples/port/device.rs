@@ -1,6 +1,7 @@
 //! What each example of a device does beside its own part: its turns, and events that are too old.
 #![allow(dead_code)] // a panel's program has no use for it
 
+use super::{Came, tell};
 use osdp::{Answer, Device, DeviceAnswer, Moment, Step};
 use std::error::Error;
 use std::io;
@@ -50,8 +51,18 @@ pub fn take_turn(
 
 /// A card that has waited for too long, while no panel was there, is told to nobody any more: it would open the door when the panel comes back.
 pub fn let_go(device: &mut Device, now: Moment, too_old: Duration) -> Done {
+    device.set_moment(now); // also where the program was stopped for more than a day
     while let Some(expired) = device.expire_event(now, too_old)? {
-        println!("{expired:?}"); // withdrawn, or in doubt: then the panel may have it
+        tell(format_args!("{expired:?}"))?; // withdrawn, or in doubt: then the panel may have it
     }
     Ok(())
+}
+
+/// Whether a line that tells a card or keys came while the program stood still, which is told: nobody stands there any more.
+pub fn is_too_old(came: &Came, line: &str) -> io::Result<bool> {
+    let is_old = came.stood_still && !line.starts_with("ISTATR ");
+    if is_old {
+        tell(format_args!("too old {line}"))?;
+    }
+    Ok(is_old)
 }

@@ -1,77 +1,110 @@
-//! A serial port, a clock, and lines of standard input, by `std` and two calls of the system: `stty` sets the port, and a thread reads it.
+//! A serial port, a clock, and lines of standard input, by `std` and three calls of the system: `stty` sets the port. One thread waits for both, takes the moment, and
+//! then reads all that is there: so nothing of it is older than the program may be late.
 pub mod device;
 pub mod door;
+pub mod ledger;
+mod sqlite;
+pub mod stand;
+pub mod store;
 
 use osdp::{Answer, Device, Expired, Moment, Order};
 use std::error::Error;
-use std::ffi::{c_int, c_ulong};
+use std::ffi::{c_int, c_short, c_ulong};
 use std::fmt::Display;
-use std::fs::{self, File, OpenOptions, TryLockError};
-use std::io::{self, BufRead, Read, Write};
+use std::fs::{File, OpenOptions, TryLockError};
+use std::io::{self, BufRead, ErrorKind, Read, Write};
 use std::os::fd::AsRawFd;
 use std::os::unix::fs::{MetadataExt, OpenOptionsExt};
 use std::process::{Command, ExitCode, Stdio};
-use std::sync::mpsc::{Receiver, RecvTimeoutError, Sender, channel};
-use std::thread::spawn;
 use std::time::Duration;
+
+use stand::{Stand, read_stands, write_stand};
+use store::Store;
+
+/// A file that is waited for, as `poll` takes it.
+#[repr(C)]
+struct Waited {
+    file: c_int,
+    events: c_short,
+    found: c_short,
+}
 
 unsafe extern "C" {
     // Of the C library.
     fn ioctl(file: c_int, request: c_ulong, ...) -> c_int;
     fn clock_gettime(clock: c_int, time: &mut [i64; 2]) -> c_int;
+    fn poll(files: *mut Waited, count: c_ulong, wait: c_int) -> c_int;
 }
 
-// Numbers of Linux: not to wait for a carrier at the opening, nor to take the port as the terminal of the program; to wait at each read again; and to let no
-// other program open the port.
+// Numbers of Linux: neither to wait at a read nor at the opening, nor to take the port as the terminal of the program; to let no other program open the port; to drop
+// what has come; and to wait for bytes, or until bytes can be written.
 const O_NONBLOCK_NOCTTY: i32 = 0o4400;
-const FIONBIO: c_ulong = 0x5421;
 const TIOCEXCL: c_ulong = 0x540C;
+const TCFLSH: c_ulong = 0x540B;
+const TCIFLUSH: c_int = 0;
+const POLLIN: c_short = 1;
+const POLLOUT: c_short = 4;
 /// The clock that goes on while the computer sleeps, so that a card from before is seen as old. That of `Instant` stands still then.
 const CLOCK_BOOTTIME: c_int = 7;
+
+/// After so long a port that takes nothing has failed.
+const FULL: Duration = Duration::from_secs(5);
+/// How late the program may be, where its words don't say otherwise.
+const LATE: Duration = Duration::from_secs(5);
+/// How long it waits at once.
+const LONGEST: Duration = Duration::from_secs(60);
 
 /// Rates of lines, which a port has.
 pub const RATES: [u32; 6] = [9600, 19200, 38400, 57600, 115200, 230400];
 
-/// What has come.
-pub enum Came {
-    Bytes(Vec<u8>),
-    Line(String),
-    Nothing,
+/// What has come by a moment.
+pub struct Came {
+    /// When the wait ended: what has come was read after it.
+    pub now: Moment,
+    pub bytes: Vec<u8>,
+    pub lines: Vec<String>,
+    /// Whether the program stood still for longer than it may be late: it was stopped, or the computer has slept, or what it did before took so long. Then bytes that
+    /// had come are dropped, as a line may lose them.
+    pub stood_still: bool,
 }
 
-impl Came {
-    /// The bytes that have come, none where it is something else.
-    #[allow(dead_code)] // some of the examples look at each kind
-    pub fn bytes(&self) -> &[u8] {
-        match self {
-            Came::Bytes(bytes) => bytes,
-            Came::Line(_) | Came::Nothing => &[],
-        }
-    }
+/// What the words of a program say beside its port and the rate.
+#[derive(Default)]
+pub struct Options {
+    /// The program's store, whether `--new` makes it, and how many ended orders and handled events stay there.
+    pub kept: Option<String>,
+    pub is_new: bool,
+    pub retain: Option<i64>,
+    late: Option<Duration>,
 }
 
 pub struct Port {
     file: File,
-    came: Receiver<io::Result<Came>>,
     started: Duration,
-    /// The rate that the words of the program have, and the file that they name by `--keep`.
+    /// When the last wait ended.
+    last: Option<Moment>,
+    /// A line that isn't whole yet; none once standard input has ended.
+    line: Option<Vec<u8>>,
+    /// The rate that the words of the program have, and what else they say.
     pub rate: u32,
-    pub kept: Option<String>,
-    /// Of a device: where it is, and whether it has refused a COMSET.
+    pub options: Options,
+    /// Of a device: its store, by which name that has it, where it is, and whether it has refused a COMSET.
+    store: Option<Store>,
+    name: u8,
     address: u8,
     has_refused: bool,
 }
 
 impl Port {
     /// Opens a port raw, at a rate: 8 bits, no parity, 1 stop bit. No other program may open it then. An error where another one has it.
-    pub fn open(path: &str, rate: u32, kept: Option<String>) -> io::Result<Port> {
-        let options = OpenOptions::new()
+    pub fn open(path: &str, rate: u32, options: Options) -> io::Result<Port> {
+        let opens = OpenOptions::new()
             .read(true)
             .write(true)
             .custom_flags(O_NONBLOCK_NOCTTY)
             .clone();
-        let file = match options.open(path) {
-            Err(error) if error.kind() == io::ErrorKind::ResourceBusy => return Err(taken(path)),
+        let file = match opens.open(path) {
+            Err(error) if error.kind() == ErrorKind::ResourceBusy => return Err(taken(path)),
             file => file.map_err(|error| named(&format!("{path} can't be opened"), error))?,
         };
         match file.try_lock() {
@@ -83,30 +116,17 @@ impl Port {
             let why = "it is no serial port, or hasn't that rate";
             io::Error::other(format!("{path} can't be set to {rate}: {why}"))
         })?;
-        // SAFETY: both calls get an open file, and what each of them asks for: nothing, and a number. One that fails leaves the port as it was.
-        let waits = unsafe {
-            ioctl(file.as_raw_fd(), TIOCEXCL);
-            ioctl(file.as_raw_fd(), FIONBIO, &0 as *const c_int)
-        };
-        if waits != 0 {
-            return Err(io::Error::last_os_error());
-        }
-        let (sender, came) = channel();
-        let (mut reading, lines) = (file.try_clone()?, sender.clone());
-        spawn(move || read_bytes(&mut reading, &sender));
-        spawn(move || {
-            // a line that isn't UTF-8 is refused as others are, and isn't the end of all lines
-            for line in io::stdin().lock().split(b'\n').map_while(Result::ok) {
-                let line = String::from_utf8_lossy(&line).trim_end().into();
-                let _ = lines.send(Ok(Came::Line(line)));
-            }
-        });
+        // SAFETY: the call gets an open file. Where it fails the port stays as it was.
+        let _ = unsafe { ioctl(file.as_raw_fd(), TIOCEXCL) };
         Ok(Port {
             file,
-            came,
             started: boot_time(),
+            last: None,
+            line: Some(Vec::new()),
             rate,
-            kept,
+            options,
+            store: None,
+            name: 0,
             address: 0,
             has_refused: false,
         })
@@ -125,18 +145,151 @@ impl Port {
         Moment::after(boot_time().saturating_sub(self.started))
     }
 
-    /// Waits for bytes or a line, up to a moment. An error where the port is gone.
-    pub fn wait(&self, until: Moment) -> io::Result<Came> {
-        match self.came.recv_timeout(until.since(self.now())) {
-            Ok(came) => came,
-            Err(RecvTimeoutError::Timeout) => Ok(Came::Nothing),
-            Err(RecvTimeoutError::Disconnected) => Err(io::ErrorKind::UnexpectedEof.into()),
+    /// Whether more time has passed since a moment than the program may be late.
+    pub fn is_late(&self, since: Moment) -> bool {
+        self.now().since(since) > self.late()
+    }
+
+    /// How late the program may be.
+    pub fn late(&self) -> Duration {
+        self.options.late.unwrap_or(LATE)
+    }
+
+    /// Waits for bytes or lines, up to a moment, and then reads all that is there. An error where the port is gone.
+    pub fn wait(&mut self, until: Moment) -> io::Result<Came> {
+        let late = self.late();
+        let began = self.now();
+        let last = self.last.unwrap_or(began);
+        let wait = until.since(began).min(LONGEST);
+        let [has_bytes, has_lines] = self.ready(POLLIN, wait);
+        let now = self.now();
+        let mut came = Came {
+            now,
+            bytes: Vec::new(),
+            lines: Vec::new(),
+            stood_still: began.since(last) > late || now.since(last) > wait + late,
+        };
+        self.last = Some(now);
+        self.drop_if(came.stood_still);
+        if has_lines {
+            came.lines = self.read_lines()?;
+        }
+        if has_bytes && !came.stood_still {
+            came.bytes = self.read_bytes()?;
+        }
+        if self.is_late(now) {
+            came.stood_still = true; // since the wait has ended: what was read may be of long ago too
+            came.bytes.clear();
+            self.drop_if(true);
+        }
+        Ok(came)
+    }
+
+    /// Waits so long at most. Whether the port is ready, and whether standard input has something.
+    fn ready(&self, events: c_short, wait: Duration) -> [bool; 2] {
+        let waits = |file, events| Waited {
+            file,
+            events,
+            found: 0,
+        };
+        let lines = match self.line {
+            Some(_) if events == POLLIN => 0,
+            _ => -1,
+        };
+        let mut files = [waits(self.file.as_raw_fd(), events), waits(lines, POLLIN)];
+        // SAFETY: there are two files. Where the call fails, as by a signal, nothing was found.
+        let _ = unsafe { poll(files.as_mut_ptr(), 2, wait.as_millis() as c_int) };
+        files.map(|file| file.found != 0)
+    }
+
+    /// Drops the bytes that have come.
+    fn drop_if(&self, is_old: bool) {
+        if is_old {
+            // SAFETY: the call gets an open file and a number. Where it fails nothing was dropped, as where nothing has come.
+            let _ = unsafe { ioctl(self.file.as_raw_fd(), TCFLSH, TCIFLUSH) };
         }
     }
 
-    pub fn write(&mut self, bytes: &[u8]) -> io::Result<()> {
-        self.file.write_all(bytes)
+    /// All bytes that are there; none where another program has taken them away.
+    fn read_bytes(&mut self) -> io::Result<Vec<u8>> {
+        let (mut bytes, mut piece) = (Vec::new(), [0; 4096]);
+        loop {
+            match self.file.read(&mut piece) {
+                Ok(0) if bytes.is_empty() => return Err(io::Error::other("the port is gone")),
+                Ok(0) => return Ok(bytes),
+                Ok(count) => bytes.extend_from_slice(&piece[..count]),
+                Err(error) if error.kind() == ErrorKind::Interrupted => {}
+                Err(error) if error.kind() == ErrorKind::WouldBlock => return Ok(bytes),
+                Err(_) if !bytes.is_empty() => return Ok(bytes),
+                Err(error) => return Err(error),
+            }
+        }
     }
+
+    /// The lines that are whole by one read. A line that isn't UTF-8 is refused as others are, and isn't the end of all lines.
+    fn read_lines(&mut self) -> io::Result<Vec<String>> {
+        let mut input = io::stdin().lock();
+        let Some(held) = &mut self.line else {
+            return Ok(Vec::new());
+        };
+        let count = match input.fill_buf() {
+            Ok(bytes) => {
+                held.extend_from_slice(bytes);
+                bytes.len()
+            }
+            Err(error)
+                if matches!(error.kind(), ErrorKind::WouldBlock | ErrorKind::Interrupted) =>
+            {
+                return Ok(Vec::new());
+            }
+            Err(_) => 0,
+        };
+        input.consume(count);
+        let mut pieces: Vec<&[u8]> = held.split(|byte| *byte == b'\n').collect();
+        let rest = pieces.pop().unwrap_or_default().to_vec();
+        let text = |line: &[u8]| String::from_utf8_lossy(line).trim_end().into();
+        let mut lines: Vec<String> = pieces.into_iter().map(text).collect();
+        self.line = match count {
+            0 => None,
+            _ => Some(rest.clone()),
+        };
+        if count == 0 && !rest.is_empty() {
+            lines.push(text(&rest)); // the last one needs no line feed
+        }
+        Ok(lines)
+    }
+
+    /// Writes bytes that were made at a moment, if they aren't late. Whether they were written. An error where the port takes nothing for five seconds.
+    pub fn write(&mut self, mut bytes: &[u8], since: Moment) -> io::Result<bool> {
+        let began = self.now();
+        if self.is_late(since) {
+            return Ok(false);
+        }
+        while !bytes.is_empty() {
+            match self.file.write(bytes) {
+                Ok(count) => bytes = &bytes[count..],
+                Err(error) if error.kind() == ErrorKind::Interrupted => {}
+                Err(error) if error.kind() == ErrorKind::WouldBlock => {
+                    if self.now().since(began) > FULL {
+                        return Err(io::Error::other("the port can't be written"));
+                    }
+                    self.ready(POLLOUT, Duration::from_secs(1));
+                }
+                Err(error) => return Err(error),
+            }
+        }
+        Ok(true)
+    }
+}
+
+/// Prints a line. An error where nobody reads it any more, which ends the program.
+pub fn tell(line: impl Display) -> io::Result<()> {
+    writeln!(io::stdout(), "{line}")
+}
+
+/// Prints a line on standard error. Where nobody reads it the program goes on: `eprintln!` would panic there.
+fn note(line: impl Display) {
+    let _ = writeln!(io::stderr(), "{line}");
 }
 
 /// How long the computer has been on.
@@ -192,36 +345,49 @@ fn taken(path: &str) -> io::Error {
 /// What a device needs beside it, and a panel doesn't.
 #[allow(dead_code)]
 impl Port {
-    /// The address of a device that keeps its place: the one in the file, to whose rate the port is set, or its first one where nothing was kept yet.
+    /// The address of a device that keeps its place: the one in the store, to whose rate the port is set, or its first one where nothing was kept yet.
     pub fn address(&mut self, first: u8) -> Result<u8, Box<dyn Error>> {
-        self.address = first;
-        let Some(path) = self.kept.clone() else {
+        (self.name, self.address) = (first, first);
+        let Some(path) = self.options.kept.clone() else {
             return Ok(first);
         };
-        let what = format!("the kept place can't be read: {path}");
-        let text = match fs::read_to_string(&path) {
-            Err(error) if error.kind() == io::ErrorKind::NotFound => return Ok(first),
-            text => text.map_err(|error| named(&what, error))?,
-        };
-        let words: Vec<&str> = text.split_whitespace().collect();
-        let [Ok(address), Ok(rate)] = words
-            .iter()
-            .map(|word| word.parse::<u32>())
-            .collect::<Vec<_>>()[..]
-        else {
-            return Err(what.into());
-        };
-        self.address = u8::try_from(address)
-            .ok()
-            .filter(|at| *at <= 126)
-            .ok_or(what)?;
-        self.set_rate(rate)
-            .map_err(|_| format!("the port can't be set to {rate}, the rate that {path} has"))?;
+        let store = Store::open(&path, "device", self.options.is_new)?;
+        let stands = read_stands(&store)?;
+        self.store = Some(store);
+        match &stands[..] {
+            [] => self.keep((first, self.rate))?,
+            [mine] => {
+                let (address, rate) = mine.place();
+                (self.name, self.address) = (mine.name, address);
+                self.set_rate(rate).map_err(|_| {
+                    format!("the port can't be set to {rate}, the rate that {path} has")
+                })?;
+            }
+            _ => Err(format!(
+                "{path} keeps several devices, and a device is one: name another file"
+            ))?,
+        }
         Ok(self.address)
     }
 
+    /// Keeps where the device is from now on. Tells where that can't be done.
+    fn keep(&mut self, place: (u8, u32)) -> io::Result<()> {
+        let Some(store) = &mut self.store else {
+            return Ok(());
+        };
+        let stand = Stand {
+            name: self.name,
+            places: vec![place],
+            id: None,
+        };
+        match write_stand(store, &stand).and_then(|()| store.commit()) {
+            Ok(()) => Ok(()),
+            Err(why) => tell(format_args!("not kept {} {}: {why}", place.0, place.1)),
+        }
+    }
+
     /// Whether the port can be set to a rate: it is set to it, and back.
-    fn can_have(&self, rate: u32) -> bool {
+    pub fn can_have(&self, rate: u32) -> bool {
         let takes = RATES.contains(&rate) && set(&self.file, rate).is_ok();
         set(&self.file, self.rate).is_ok() && takes
     }
@@ -232,35 +398,36 @@ impl Port {
         &mut self,
         device: &mut Device,
         start: impl FnOnce(u8) -> Result<Device, osdp::Error>,
-    ) -> Result<(), osdp::Error> {
+    ) -> Result<(), Box<dyn Error>> {
         if std::mem::take(&mut self.has_refused) {
             while let Some(event) = device.lapse_event() {
-                println!("{:?}", Expired::InDoubt(event));
+                tell(format_args!("{:?}", Expired::InDoubt(event)))?;
             }
             while let Some(event) = device.withdraw_event() {
-                println!("{:?}", Expired::Withdrawn(event));
+                tell(format_args!("{:?}", Expired::Withdrawn(event)))?;
             }
             *device = start(self.address)?;
         }
         Ok(())
     }
 
-    /// Sends the answer of a device. Where it has moved, its place is kept before the panel is told, and the port goes to its rate after that. A COM of a rate that
-    /// the port hasn't isn't sent, since nobody would find the device there: it is made anew where it was, as after a loss of power.
-    pub fn send(&mut self, answer: Answer<'_>) -> io::Result<Option<Order>> {
+    /// Sends the answer of a device to what came by a moment, if it isn't late. Where it has moved, its place is kept before the panel is told, and the port goes to its
+    /// rate after that. A COM of a rate that the port hasn't isn't sent, since nobody would find the device there: it is made anew where it was, as after a loss of
+    /// power.
+    pub fn send(&mut self, answer: Answer<'_>, now: Moment) -> io::Result<Option<Order>> {
         let moved = answer.moved;
         if let Some(to) = moved {
             self.has_refused = !self.can_have(to.baud_rate);
             if self.has_refused {
-                println!("no rate {}", to.baud_rate);
+                tell(format_args!("no rate {}", to.baud_rate))?;
                 return Ok(None);
             }
             self.address = to.address;
         }
-        if let (Some(to), Some(path)) = (moved, &self.kept) {
-            door::keep_text(path, &format!("{} {}\n", to.address, to.baud_rate))?;
+        if let Some(to) = moved {
+            self.keep((to.address, to.baud_rate))?;
         }
-        let order = answer.send(|burst| self.write(burst))?;
+        let order = answer.send(|burst| self.write(burst, now).map(drop))?;
         moved.map_or(Ok(()), |to| self.set_rate(to.baud_rate))?;
         Ok(order)
     }
@@ -271,57 +438,91 @@ fn device_of(number: u64) -> String {
     format!("{:02x}:{:02x}:", number >> 8 & 0xFFF, number & 0xFF)
 }
 
-/// Runs a program on the port that its words name, at their rate. `keeps`: they may name a file by `--keep`. An error is told, with status 1; other words have status 2.
+/// Whether a program has a store, and how its words name that. `--new` makes it.
+#[derive(Clone, Copy, PartialEq, Eq)]
+#[allow(dead_code)] // each program names one
+pub enum Keeps {
+    Nothing,
+    /// Where devices are, in the file of `--keep`.
+    Places,
+    /// All, in a file that the first word names. `--retain` says how many ended orders and handled events stay.
+    All,
+}
+
+/// Takes the options off the words. None where one is bad.
+fn take_options(keeps: Keeps, mut words: &[String]) -> Option<(Options, &[String])> {
+    let mut options = Options::default();
+    loop {
+        words = match words {
+            [option, file, rest @ ..] if keeps == Keeps::Places && option == "--keep" => {
+                options.kept = Some(file.clone());
+                rest
+            }
+            [option, rest @ ..] if keeps != Keeps::Nothing && option == "--new" => {
+                options.is_new = true;
+                rest
+            }
+            [option, count, rest @ ..] if keeps == Keeps::All && option == "--retain" => {
+                let count = count.parse().ok().filter(|count| *count >= 1);
+                options.retain = Some(count?);
+                rest
+            }
+            [option, late, rest @ ..] if option == "--late" => {
+                let late = late
+                    .parse()
+                    .ok()
+                    .filter(|late| (100..=60000).contains(late));
+                options.late = Some(Duration::from_millis(late?));
+                rest
+            }
+            [file, rest @ ..] if keeps == Keeps::All => {
+                options.kept = Some(file.clone());
+                return Some((options, rest));
+            }
+            _ if options.is_new && options.kept.is_none() => return None,
+            rest => return Some((options, rest)),
+        }
+    }
+}
+
+/// Runs a program on the port that its words name, at their rate. An error is told, with status 1, but not that nobody reads what it prints; other words have status 2.
 pub fn run_on_port(
     name: &str,
-    keeps: bool,
+    keeps: Keeps,
     run: impl FnOnce(Port) -> Result<(), Box<dyn Error>>,
 ) -> ExitCode {
-    let usage = match keeps {
-        true => format!("usage: {name} [--keep FILE] PORT RATE"),
-        false => format!("usage: {name} PORT RATE"),
+    let (keep, store) = match keeps {
+        Keeps::Nothing => ("", ""),
+        Keeps::Places => ("[--keep FILE [--new]] ", ""),
+        Keeps::All => ("[--new] [--retain N] ", "STORE "),
     };
+    let usage = format!("usage: {name} {keep}[--late MS] {store}PORT RATE");
     let words: Vec<String> = std::env::args().skip(1).collect();
-    let (kept, words) = match &words[..] {
-        [option, file, rest @ ..] if keeps && option == "--keep" => (Some(file.clone()), rest),
-        rest => (None, rest),
-    };
-    if matches!(words, [word] if word == "--help" || word == "-h") {
-        println!("{usage}");
-        return ExitCode::SUCCESS;
+    if matches!(&words[..], [word] if word == "--help" || word == "-h") {
+        return match tell(usage) {
+            Ok(()) => ExitCode::SUCCESS,
+            Err(_) => ExitCode::FAILURE,
+        };
     }
-    let [path, rate] = words else {
-        eprintln!("{usage}");
+    let Some((options, [path, rate])) = take_options(keeps, &words) else {
+        note(&usage);
         return ExitCode::from(2);
     };
     let Ok(rate) = rate.parse() else {
-        eprintln!("{name}: bad rate: {rate}");
+        note(format_args!("{name}: bad rate: {rate}"));
         return ExitCode::from(2);
     };
-    match Port::open(path, rate, kept)
+    match Port::open(path, rate, options)
         .map_err(Into::into)
         .and_then(run)
     {
         Ok(()) => ExitCode::SUCCESS,
         Err(error) => {
-            eprintln!("{name}: {error}");
+            let is_unread = |error: &io::Error| error.kind() == ErrorKind::BrokenPipe;
+            if !error.downcast_ref().is_some_and(is_unread) {
+                note(format_args!("{name}: {error}"));
+            }
             ExitCode::FAILURE
-        }
-    }
-}
-
-/// Hands on what comes, until the port is gone, which is told. Where another program takes bytes away, this thread alone waits for others.
-fn read_bytes(port: &mut File, came: &Sender<io::Result<Came>>) {
-    let mut bytes = [0; 4096];
-    loop {
-        let read = match port.read(&mut bytes) {
-            Ok(0) => Err(io::Error::other("the port is gone")),
-            Ok(count) => Ok(Came::Bytes(bytes[..count].to_vec())),
-            Err(error) => Err(error),
-        };
-        let is_gone = read.is_err();
-        if came.send(read).is_err() || is_gone {
-            return;
         }
     }
 }

@@ -2,7 +2,7 @@
 
 use crate::panel::rows::begun_panel;
 use osdp_controller::Report;
-use osdp_panel::{Panel, Turn};
+use osdp_panel::{KeptPanelReport, Panel, Turn, What};
 use std::io;
 use std::io::{ErrorKind, Read};
 use std::process::Abort;
@@ -60,27 +60,30 @@ struct Counts {
 }
 
 impl Counts {
-    fn count(&mut self, turn: &Turn) {
-        if turn.sends {
-            self.frames = self.frames.saturating_add(1);
-        }
-        match turn.heard.report.read() {
-            Some((_, Report::Opened(_))) => self.opened = self.opened.saturating_add(1),
-            Some(_) => self.others = self.others.saturating_add(1),
-            None => {}
-        }
-        if turn.ticked.report.is_some() {
-            self.others = self.others.saturating_add(1);
+    fn count(&mut self, kept: &KeptPanelReport) {
+        let Some(told) = kept.read() else {
+            return;
+        };
+        match told.what {
+            What::Told(Report::Opened(_)) => self.opened = self.opened.saturating_add(1),
+            What::Told(_) | What::Expired(_) => self.others = self.others.saturating_add(1),
         }
     }
 }
 
 /// A turn: reads, and answers what is written a turn later. Noise comes in place of the first answer.
-fn turns(rt: &impl Abort, panel: &mut Panel, port: &mut Port, turn: &mut Turn, now: u64) {
+fn turns(rt: &impl Abort, panel: &mut Panel, port: &mut Port, counts: &mut Counts, now: u64) {
     let mut buffer = [0; 32];
+    let mut turn = Turn::new();
+    let mut kept = KeptPanelReport::new();
     let count = port.read(&mut buffer).unwrap_or(0);
-    if let Some(unsent) = panel.turn(&buffer[..count], now, turn) {
-        let control = unsent.bytes(turn).get(4).copied();
+    panel.hear(&buffer[..count], now);
+    if panel.next_report(&mut kept) {
+        counts.count(&kept);
+    }
+    if let Some(unsent) = panel.tick(now, &mut turn) {
+        counts.frames = counts.frames.saturating_add(1);
+        let control = panel.write(unsent, now, &turn).get(4).copied();
         let number = control.expect(rt, "a control byte") & 3;
         port.waiting = if now == 400 { NOISE } else { answer(number) };
     }
@@ -97,10 +100,8 @@ fn twelve_seconds(rt: &impl Abort, panel: &mut Panel, nothing: ErrorKind) -> Cou
         opened: 0,
         others: 0,
     };
-    let mut turn = Turn::new();
     for step in 0..1200u64 {
-        turns(rt, panel, &mut port, &mut turn, step * 10);
-        counts.count(&turn);
+        turns(rt, panel, &mut port, &mut counts, step * 10);
     }
     counts
 }

@@ -2,7 +2,7 @@
 
 use osdp_controller::Report;
 use osdp_frame::{Address, CheckKind};
-use osdp_panel::{BusConfig, Panel, Room, Told, Turn};
+use osdp_panel::{BusConfig, KeptPanelReport, Panel, Room, Turn, What};
 use osdp_test_packets::bytes_of;
 use std::alloc::Global;
 use std::process::Abort;
@@ -13,7 +13,7 @@ pub fn begun_panel(rt: &impl Abort, alloc: Global, addresses: &[u8]) -> Panel {
     let mut panel = made.ok().expect(rt, "a panel");
     for address in addresses {
         let address = Address::new(*address).expect(rt, "an address");
-        let entry = panel.add(address).ok().expect(rt, "an entry");
+        let entry = panel.add(address, 0).ok().expect(rt, "an entry");
         assert!(rt; panel.begin(entry, 0).is_ok());
     }
     panel
@@ -29,53 +29,55 @@ fn is_kind(report: &Report<'_>, name: &str) -> bool {
     }
 }
 
-/// The report is that of the word: an entry of one digit and a kind, or none.
-fn is_told(rt: &impl Abort, told: &Told, word: &str) {
-    match told.read() {
+/// What is told is that of the word: an entry of one digit and a kind, or none.
+fn is_told(rt: &impl Abort, kept: &KeptPanelReport, word: &str) {
+    match kept.read() {
         None => assert_eq!(rt; word, "none"),
-        Some((entry, report)) => {
+        Some(told) => {
             let (digit, expected) = word.split_once(':').expect(rt, word);
-            assert_eq!(rt; digit.parse::<usize>().ok(), Some(entry));
-            assert!(rt; is_kind(&report, expected), "{word}");
+            assert_eq!(rt; digit.parse::<usize>().ok(), Some(told.entry));
+            let What::Told(report) = &told.what else {
+                assert!(rt; false, "{word}");
+                return;
+            };
+            assert!(rt; is_kind(report, expected), "{word}");
         }
     }
 }
 
-/// The burst that goes out is that of the digits, or there is none.
-fn is_written(rt: &impl Abort, turn: &Turn, digits: &str) {
+/// Ticks; the burst that goes out is that of the digits, or there is none.
+fn is_written(rt: &impl Abort, panel: &mut Panel, now: u64, digits: &str) {
+    let mut turn = Turn::new();
     let mut buffer = [0; 32];
-    if turn.sends {
-        let wanted = bytes_of(digits, &mut buffer).expect(rt, digits);
-        assert_eq!(rt; turn.burst.as_slice(), wanted);
-    } else {
-        assert_eq!(rt; digits, "none");
+    match panel.tick(now, &mut turn) {
+        Some(unsent) => {
+            let wanted = bytes_of(digits, &mut buffer).expect(rt, digits);
+            assert_eq!(rt; panel.write(unsent, now, &turn), wanted);
+        }
+        None => assert_eq!(rt; digits, "none"),
     }
 }
 
-/// Takes the turn of a row: a moment, what the port gave, then what is to be written, what the bytes brought, what the moment brought, and
-/// until when the panel may sleep.
-fn turns(rt: &impl Abort, panel: &mut Panel, turn: &mut Turn, row: &str) {
+/// Takes the turn of a row: a moment, what the port gave, then what is told, what is written, and until when the panel may sleep.
+fn turns(rt: &impl Abort, panel: &mut Panel, kept: &mut KeptPanelReport, row: &str) {
     let (moment, rest) = row.split_once(' ').expect(rt, row);
     let (given, rest) = rest.split_once(' ').expect(rt, row);
-    let (written, rest) = rest.split_once(' ').expect(rt, row);
-    let (heard, rest) = rest.split_once(' ').expect(rt, row);
-    let (ticked, sleeps) = rest.split_once(' ').expect(rt, row);
+    let (told, rest) = rest.split_once(' ').expect(rt, row);
+    let (written, sleeps) = rest.split_once(' ').expect(rt, row);
     let now = moment.parse().ok().expect(rt, row);
     let mut buffer = [0; 32];
-    let given = bytes_of(given, &mut buffer).expect(rt, row);
-    if let Some(unsent) = panel.turn(given, now, turn) {
-        assert!(rt; !unsent.bytes(turn).is_empty());
-    }
-    is_written(rt, turn, written);
-    is_told(rt, &turn.heard.report, heard);
-    is_told(rt, &turn.ticked.report, ticked);
-    assert_eq!(rt; turn.sleep_until, sleeps.parse::<u64>().ok());
+    panel.hear(bytes_of(given, &mut buffer).expect(rt, row), now);
+    let _ = panel.next_report(kept);
+    is_told(rt, kept, told);
+    assert!(rt; panel.report().is_none());
+    is_written(rt, panel, now, written);
+    assert_eq!(rt; panel.next_deadline(), sleeps.parse::<u64>().ok());
 }
 
 /// Takes the turns of rows one after the other.
 pub fn run(rt: &impl Abort, panel: &mut Panel, rows: &str) {
-    let mut turn = Turn::new();
+    let mut kept = KeptPanelReport::new();
     for row in rows.lines() {
-        turns(rt, panel, &mut turn, row);
+        turns(rt, panel, &mut kept, row);
     }
 }

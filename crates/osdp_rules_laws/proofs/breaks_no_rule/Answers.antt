@@ -1,4 +1,4 @@
-use Rattle.osdp_rules_laws.proofs.Along.{breaks_no_rule}
+use Rattle.osdp_rules_laws.proofs.Own.{breaks_no_rule}
 use Rattle.osdp_rules_laws.proofs.Reading.{reads_replies}
 use Rattle.osdp_rules_laws.proofs.breaks_no_rule.Goals as goal
 

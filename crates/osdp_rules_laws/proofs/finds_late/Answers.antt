@@ -1,5 +1,5 @@
-use Rattle.osdp_rules_laws.proofs.Shares.{tells_shares}
+use Rattle.osdp_rules_laws.proofs.Delaying.{tells_delays}
 use Rattle.osdp_rules_laws.proofs.finds_late.Goals as goal
 
-pub returns-clause-shares : goal.returns-clause-shares
-returns-clause-shares c = tells_shares
+pub returns : goal.returns
+returns c = tells_delays

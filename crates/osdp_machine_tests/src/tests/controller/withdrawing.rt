@@ -1,4 +1,4 @@
-//! Commands that are taken back while the reader is out of reach.
+//! Commands that are taken back before they go out.
 
 use super::*;
 
@@ -25,6 +25,14 @@ fn takes_back(rt: &impl Abort, controller: &mut Controller, record: &str) {
     assert!(rt; controller.withdraw());
 }
 
+/// The command that may be taken back is the order for this output. It stays.
+fn may_take_back(rt: &impl Abort, controller: &Controller, record: &str) {
+    let mut place = Spelling::new();
+    let order = command(rt, &["OUT", record], &mut place);
+    let first = controller.withdrawable().expect(rt, "a command");
+    assert!(rt; is_same(&first, &order));
+}
+
 /// No command is taken back, and as many wait as before.
 fn takes_none_back(rt: &impl Abort, controller: &mut Controller, waiting: usize) {
     assert!(rt; controller.withdrawable().is_none() && !controller.withdraw());
@@ -43,13 +51,14 @@ fn loses_first_order(rt: &impl Abort, controller: &mut Controller) {
     assert!(rt; controller.is_closed());
 }
 
-/// A session is opened at 1420.
+/// A session is opened at 1420. In the quiet wait, while the opening ID is outstanding and after it the order that waits longest may be taken back.
 fn opens_again(rt: &impl Abort, controller: &mut Controller) {
     assert_eq!(rt; controller.begin(1011), Ok(()));
-    takes_none_back(rt, controller, 2);
+    may_take_back(rt, controller, "2:2:0");
     sends(rt, controller, 1411, ID);
+    may_take_back(rt, controller, "2:2:0");
     assert!(rt; is_opened(rt, &hear(rt, controller, PDID, 1420)));
-    takes_none_back(rt, controller, 2);
+    may_take_back(rt, controller, "2:2:0");
 }
 
 /// The order goes out and is settled.
@@ -78,6 +87,25 @@ fn an_order_that_has_gone_stale(rt: HostRuntime) {
     settles(&rt, &mut controller, 1440, ("3:2:0", OUT_3_ON, ACK_2));
     stays(&rt, &mut controller, 1489);
     sends(&rt, &mut controller, 1490, POLL_3);
+}
+
+/// In a session that is open, with nothing outstanding, an order is taken back. A POLL goes out at its moment. While it is outstanding the order that has
+/// waited longest is taken back, and the next one goes out.
+#[test]
+fn an_order_of_an_open_session(rt: HostRuntime) {
+    let mut controller = opened(&rt, rt.alloc());
+    orders(&rt, &mut controller, "1:2:0");
+    takes_back(&rt, &mut controller, "1:2:0");
+    takes_none_back(&rt, &mut controller, 0);
+    stays(&rt, &mut controller, 459);
+    sends(&rt, &mut controller, 460, POLL_1);
+    orders(&rt, &mut controller, "0:2:0");
+    orders(&rt, &mut controller, "3:2:0");
+    takes_back(&rt, &mut controller, "0:2:0");
+    passes_by(&rt, &mut controller, ACK_1, 470);
+    settles(&rt, &mut controller, 470, ("3:2:0", OUT_3_ON, ACK_2));
+    stays(&rt, &mut controller, 519);
+    sends(&rt, &mut controller, 520, POLL_3);
 }
 
 /// Where none waits none comes back.

@@ -1,4 +1,4 @@
-use Rattle.osdp_controller.proofs.Common.{◌≡◌, ◌∙◌, ℕ, List, [], Some, None, false, ap, refl, sym, option_copied, Session, on_its_way, is_outstanding, frame_if, is_over, next_in, Ticked, ticks_in, first_of, session_of}
+use Rattle.osdp_controller.proofs.Common.{◌≡◌, ◌∙◌, ℕ, List, [], Some, None, false, ap, refl, sym, option_copied, Session, on_its_way, is_outstanding, frame_if, is_over, next_in, is_poll_next, Ticked, ticks_in, first_of, session_of}
 use Rattle.osdp_controller.proofs.OnItsWay.{ticks_ask}
 use Rattle.osdp_controller.proofs.Waiting.{keeps_beginning, keeps_ticking, machine_ticked, session_ticked, ticks_leave}
 use Rattle.osdp_controller.proofs.controller.Controller.begin_or_repeat.Goals as goal
@@ -8,9 +8,9 @@ invariant_of-self c =
     let r = c.self.inside in
     let bytes = c.in-Some.command.now in
     let start = c.with-session.ensures ∙ ap (λ (b : List ℕ). session_of r.kept b) c.first_of.ensures.first in
-    let next : next_in c.with-session.result.state r.queue.items ≡ Some bytes = sym c.next_command.ensures ∙ ap option_copied c.in-Some.is in
-    keeps_beginning r.kept c.keep-self-inside.result c.begin_command.new.self r.queue r.room bytes
-    (sym (ap (λ (s : Session). next_in s.state r.queue.items) start) ∙ next) (ap (λ (s : Session). on_its_way s.state) c.begin_command.ensures.session)
+    let next : next_in c.with-session.result.state (is_poll_next c.with-session.result) r.queue.items ≡ Some bytes = sym c.next_command.ensures ∙ ap option_copied c.in-Some.is in
+    keeps_beginning r.kept c.keep-self-inside.result c.begin_command.new.self r.queue r.room bytes (is_poll_next (session_of r.kept (first_of r.queue.items)))
+    (sym (ap (λ (s : Session). next_in s.state (is_poll_next s) r.queue.items) start) ∙ next) (ap (λ (s : Session). on_its_way s.state) c.begin_command.ensures.session)
     c.keep-self-inside.ensures c.begin_command.ensures.kept c.self.invariant
 
 pub invariant_of-self-in-None : goal.invariant_of-self-in-None
@@ -32,7 +32,7 @@ returns-in-None-clause-frame c =
     let before = rw (← c.self.view_is) at c.requires in
     let going : is_over s.state s ≡ false = ap (λ (x : Session). is_over x.state x) start ∙ before in
     let asks = ap (λ (x : Session). on_its_way x.state) c.tick-sends.ensures.session ∙ ticks_ask s.state s going refl ∙ ap (λ (x : Session). on_its_way x.state) start in
-    let none : next_in first.state r.queue.items ≡ None = sym (ap (λ (x : Session). next_in x.state r.queue.items) start) ∙ sym c.next_command.ensures ∙ ap option_copied c.in-None.is in
+    let none : next_in first.state (is_poll_next first) r.queue.items ≡ None = sym (ap (λ (x : Session). next_in x.state (is_poll_next x) r.queue.items) start) ∙ sym c.next_command.ensures ∙ ap option_copied c.in-None.is in
     let same = session_ticked r.kept c.keep-self-inside-in-None.result c.tick-sends.new.self r.queue asks c.keep-self-inside-in-None.ensures in
     rw (← c.self.view_is) (ap (λ (t : Ticked). t.step.frame) (ticks_leave first.state first r.queue.items none)
     ∙ ap (λ (x : Session). (ticks_in x.state x []).step.frame) (sym start) ∙ c.tick-sends.ensures.frame ∙ ap (λ (x : Session). frame_if c.tick-sends.result x) (sym same))
@@ -46,7 +46,7 @@ returns-in-None-clause-machine c =
     let before = rw (← c.self.view_is) at c.requires in
     let going : is_over s.state s ≡ false = ap (λ (x : Session). is_over x.state x) start ∙ before in
     let asks = ap (λ (x : Session). on_its_way x.state) c.tick-sends.ensures.session ∙ ticks_ask s.state s going refl ∙ ap (λ (x : Session). on_its_way x.state) start in
-    let none : next_in first.state r.queue.items ≡ None = sym (ap (λ (x : Session). next_in x.state r.queue.items) start) ∙ sym c.next_command.ensures ∙ ap option_copied c.in-None.is in
+    let none : next_in first.state (is_poll_next first) r.queue.items ≡ None = sym (ap (λ (x : Session). next_in x.state (is_poll_next x) r.queue.items) start) ∙ sym c.next_command.ensures ∙ ap option_copied c.in-None.is in
     rw (← c.self.view_is) (machine_ticked r.kept c.keep-self-inside-in-None.result c.tick-sends.new.self r.queue asks c.keep-self-inside-in-None.ensures r.room none
     (c.tick-sends.ensures.session ∙ ap (λ (x : Session). (ticks_in x.state x []).session) start))
 

@@ -1,0 +1,12 @@
+pub mod Common
+pub mod Hearing
+pub mod Devices
+pub mod Calls
+pub mod Counting
+pub mod Along
+pub mod Flags
+pub mod InTime
+pub mod SlowOrder
+pub mod Ending
+pub mod Exactly
+mod Rooms

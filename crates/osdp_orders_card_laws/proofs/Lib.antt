@@ -1,6 +1,0 @@
-pub mod Common
-mod Unbegun
-mod Begun
-mod Barred
-mod Cards
-mod Instances

@@ -1,6 +1,0 @@
-use Rattle.osdp_site.proofs.Common.{◌≡◌, withdraws}
-use Rattle.osdp_site.proofs.place.begin_anew.Given as goal
-
--- so many were taken back
-abbrev pub invariant-loop : goal.invariant-loop
-invariant-loop l = l.panel ≡ withdraws l.entry l.counter l.initial.panel

@@ -1,0 +1,144 @@
+"""The orders that are typed to a panel: which are taken, and which would be stale, or leave a device where
+nobody finds it."""
+from . import doors
+from .faults import Refused, is_number
+from .rounds import Place
+from .turns import AGAIN
+
+FAULTS = {
+    "line": "osdp doesn't read this command: man osdp-panel has them",
+    "B3": "that address is another device's, or may be",
+    "B5": "an address is 0 to 126",
+    "late": AGAIN,
+    "C3": "as many orders as may wait do so already",
+    "C4": "osdp itself sends POLL",
+}
+
+
+class Orders:
+    """The orders of a panel. Of the panel it uses devices, port, rounds and file, `call`, `keep` and `say`,
+    and its other pieces."""
+
+    def __init__(self, panel):
+        self.panel, self.say = panel, panel.say
+
+    def order(self, line):
+        """Takes an order, by the address of its device."""
+        if line is None:
+            self.say("refused line: it is no text, or too long")
+            return
+        try:
+            self.take(line.split())
+        except Refused as refused:
+            self.say(f"not taken {line}: {refused}")
+
+    def take(self, words):
+        if words in (["help"], ["?"]):
+            for line in doors.HELP.splitlines():
+                self.say(line)
+            return
+        if not words:
+            return
+        if words[1:] == ["accept"]:
+            self.panel.identities.accept(words[0], self.device_at)
+            return
+        device = self.device_at(words[0])
+        text = doors.command(words[1:], device.place)
+        self.may_take(device, text.split())
+        if not self.submit(device, text) or not text.startswith("COMSET "):
+            return
+        rate = int(text.split()[2])
+        if rate != self.panel.rounds.rate:  # the line has one rate
+            self.panel.line_rate.goes_to(rate, device)
+
+    def device_at(self, word):
+        """The device that an order names."""
+        for device in self.panel.devices:
+            if word == str(device.address):
+                return device
+        for device in self.panel.devices:
+            if any(word == str(place.address) for place in device.places):
+                raise Refused(f"device {device.address} may be at {word}: its COMSET isn't answered yet")
+        known = ", ".join(str(device.address) for device in self.panel.devices)
+        doors.wrong(1, word, f"the address of a device of this line: {known}; help prints all orders")
+
+    def may_take(self, device, words):
+        """Refuses an order that would be stale, or leave a device where nobody finds it."""
+        if self.panel.is_ending:
+            raise Refused("the panel ends")
+        if not self.panel.port.is_there:
+            raise Refused("the port isn't there")
+        if device.session != "open":
+            raise Refused(f"the session with {device.address} isn't open")
+        if device.is_left:
+            raise Refused(
+                f"the session with {device.address} ends, since the program stood still: type it again once"
+                " it has opened"
+            )
+        if device.other:
+            raise Refused(
+                f"another device stands at {device.address}: type {device.address} accept if it is the"
+                " right one"
+            )
+        if device.awaits_move() or device.is_in_doubt():
+            raise Refused(f"where device {device.address} is isn't known until its COMSET has an answer")
+        rounds = self.panel.rounds
+        if rounds.is_leaving or not rounds.is_reached(device):
+            sought = " and ".join(str(each.address) for each in rounds.seekers())
+            raise Refused(f"the port looks for {sought} at another rate: try again")
+        if words[0] == "COMSET":
+            self.may_move(words[1:])
+
+    def may_move(self, words):
+        if len(words) != 2 or not all(is_number(word, 0, 9999999999) for word in words):
+            raise Refused("a COMSET has an address and a rate, as COMSET 7 9600")
+        if int(words[0]) > 126:
+            raise Refused(f"address {words[0]}: an address is 0 to 126")
+        self.may_go_to(int(words[0]))
+        for each in self.panel.devices:
+            if each.session != "open":
+                raise Refused(
+                    f"the session with {each.address} isn't open: it would stay at its rate, where nobody"
+                    " finds it"
+                )
+            if each.is_in_doubt():
+                raise Refused(f"the COMSET of {each.address} isn't answered yet")
+        if not self.panel.port.can_have(int(words[1])):
+            raise Refused(f"the port has no rate {words[1]}")
+
+    def may_go_to(self, address):
+        """Refuses an address at which a device may be that the file knows and this panel hasn't."""
+        here, kept = {each.name for each in self.panel.devices}, self.panel.kept
+        for name, known in (kept.known if kept else {}).items():
+            if name not in here and any(place.address == address for place in known.places):
+                raise Refused(
+                    f"at address {address} there may be the device that began as {name}: {kept.path} says so"
+                )
+
+    def submit(self, device, text):
+        """Hands an order to `osdp`. Whether it was taken. A COMSET's new place is written down before it is
+        ordered."""
+        panel, before = self.panel, list(device.places)
+        if text.startswith("COMSET "):
+            device.may_be(Place(*map(int, text.split()[1:3])))
+            if not panel.keep():
+                device.places = before
+                self.say(
+                    f"not taken {before[0].address} {text}: the new place must be kept first, and"
+                    f" {panel.unkept}"
+                )
+                return False
+        self.say(f"ordered {device.address} {text}")
+        device.orders.append(text)
+        refusals = ["late"] if panel.is_late() else self.handed(f"submit {device.number} {text}")
+        if not refusals:
+            return True
+        device.orders.pop()
+        device.places = before
+        panel.keep()
+        self.say(f"not taken {device.address} {text}: {FAULTS.get(refusals[0], refusals[0])}")
+        return False
+
+    def handed(self, call):
+        """Hands a call to `osdp`. Why it was refused; nothing where it wasn't."""
+        return [told.split()[1] for told in self.panel.call(call) if told.startswith("refused ")]
