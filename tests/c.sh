@@ -141,6 +141,7 @@ in_rust() {
 }
 in_rust build --no-default-features
 in_rust clippy --all-targets -- -D warnings
+in_rust build --examples # `test` builds the tests of those that have some, and not what they run
 in_rust test
 in_rust run --example session
 # an example whose standard error nobody reads ends with its status, and not by a panic
