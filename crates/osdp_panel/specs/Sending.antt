@@ -4,17 +4,24 @@ use Rattle.osdp_frame.specs.Packet.{Packet}
 use Rattle.osdp_bus.specs.declared.asking.Question.{Question}
 use Rattle.osdp_bus.specs.Asking.{question}
 use Rattle.osdp_bus.specs.Buses.{BusState, has_report, seen}
-use Rattle.osdp_bus.specs.Hearing.{after_bytes}
+use Rattle.osdp_bus.specs.Hearing.{after_bytes, after_silence}
 use Rattle.osdp_bus.specs.Ticking.{BusTicked, bus_ticks}
 use Rattle.osdp_controller.specs.declared.exchange.Asked.{Asked}
 use Rattle.osdp_controller.specs.declared.exchange.Asked.TheVariants as asked
 use Rattle.osdp_panel.specs.Giving.{late_at}
 use Rattle.osdp_panel.specs.Orders.{Orders, PanelState, brings, never, orders_at, until_of}
 
+-- the bus after bytes of a turn, or a silence, which may have brought a report
+abbrev pub hears_so : BusState → PanelState → PanelState
+hears_so b p = record (brings b p) { brought = p.brought || has_report b }
+
 -- bytes come at a moment
 abbrev pub after_hear : List ℕ → ℕ → PanelState → PanelState
-after_hear bytes now p =
-    record (brings (after_bytes bytes now p.bus) p) { brought = p.brought || has_report (after_bytes bytes now p.bus) }
+after_hear bytes now p = hears_so (after_bytes bytes now p.bus) p
+
+-- the line is seen silent at a moment
+abbrev pub after_seen_silent : ℕ → PanelState → PanelState
+after_seen_silent now p = hears_so (after_silence now p.bus) p
 
 -- the last moment of a packet that goes out: that of the order that is on its way, and never of an ID or a POLL
 abbrev pub until_asked : Asked → Option Orders → ℕ

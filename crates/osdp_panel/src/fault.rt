@@ -9,7 +9,7 @@ pub enum PanelFault {
     /// The bus refuses it, as its code says.
     #[error("{0}")]
     Bus(BusFault),
-    /// N1: the entry has used up its numbers: the next one would be 2^64 - 1, which no order has.
-    #[error("N1: no number is left")]
+    /// B7: the entry has used up its numbers: the next one would be 2^64 - 1, which no order has.
+    #[error("B7: no number is left")]
     NumbersUsedUp,
 }

@@ -10,7 +10,7 @@ ghost use Rattle.osdp_panel.specs.Deadlines.{IsDeadline};
 ghost use Rattle.osdp_panel.specs.Giving.{after_give, after_withdraw, give_refusal};
 ghost use Rattle.osdp_panel.specs.Orders.{orders_at};
 ghost use Rattle.osdp_panel.specs.Panels.{AddEnds, NewEnds};
-ghost use Rattle.osdp_panel.specs.Sending.{after_hear, after_tick, after_write, sent_at, written};
+ghost use Rattle.osdp_panel.specs.Sending.{after_hear, after_seen_silent, after_tick, after_write, sent_at, written};
 ghost use Rattle.osdp_panel.specs.Telling.{after_settle, tells};
 
 use crate::expiry::{earlier, first_expiry};
@@ -141,7 +141,7 @@ impl Panel {
     /// while it waits it is told as expired as soon as it is in front, and not sent. It waits for its turn, also in a later session, and it is gone where the panel
     /// loses power before.
     ///
-    /// NoEntry (B4); else NumbersUsedUp (N1) where the next number would be 2^64 - 1; else the faults of `Bus::submit`. Nothing has changed then.
+    /// NoEntry (B4); else NumbersUsedUp (B7) where the next number would be 2^64 - 1; else the faults of `Bus::submit`. Nothing has changed then.
     pub fn submit(
         &mut self,
         entry: EntryNumber,
@@ -191,6 +191,17 @@ impl Panel {
     {
         let waited = self.bus.reported();
         self.bus.on_bytes(bytes, now);
+        self.follow(waited);
+        self.brought = self.brought || self.bus.reported().is_some();
+    }
+
+    /// The line was seen silent: the run of bytes is over, and what was begun is no packet. Only a program that sees silence by itself needs it, since ticks and the next bytes
+    /// end a run by the gap of the bus.
+    pub fn silence(&mut self, now: u64)
+        ensures { self.new ≡ after_seen_silent now self.old }
+    {
+        let waited = self.bus.reported();
+        self.bus.on_silence(now);
         self.follow(waited);
         self.brought = self.brought || self.bus.reported().is_some();
     }
@@ -260,6 +271,14 @@ impl Panel {
         ensures panel { self.new ≡ after_write now self.old }
     {
         unsent.ends();
+        self.give(now, turn)
+    }
+
+    /// As `write`, for a caller that can't hold an `Unsent`: no bytes, too, where no burst is to go out.
+    pub fn give<'a>(&mut self, now: u64, turn: &'a Turn) -> &'a [u8]
+        ensures bytes { result.now ≡ written now turn.now self.old }
+        ensures panel { self.new ≡ after_write now self.old }
+    {
         self.bus.on_bytes(&[], now);
         let last = self.last;
         self.last = None;
@@ -282,6 +301,13 @@ impl Panel {
         }
         let expiry = first_expiry(self.orders.as_slice(), &self.bus, now);
         earlier(self.bus.next_deadline(), expiry)
+    }
+
+    /// The bus of the line, to be looked at.
+    pub fn bus(&self) -> &Bus
+        ensures { result.now ≡ self.now.bus }
+    {
+        &self.bus
     }
 
     /// How many devices there are.

@@ -20,7 +20,7 @@ use Rattle.osdp_panel.specs.Orders.{Orders, PanelState, brings, never, orders_at
 use Rattle.osdp_panel.specs.Panels.{after_add_at, new_panel, panel_config}
 use Rattle.osdp_panel.specs.Sending.{goes_out, holds_back, lasts, rests, sends, sends_of, until_by, polled_by}
 use Rattle.osdp_panel.specs.Telling.{after_settle, expires}
-use Rattle.osdp_panel_laws.specs.Calls.{AreCallsOfItsBus, Call, Add, Retarget, Begin, Submit, Withdraw, Hear, NextReport, Tick, Write, after_call, after_calls, bus_calls, bus_calls_along, submits, withdraws}
+use Rattle.osdp_panel_laws.specs.Calls.{AreCallsOfItsBus, Call, Add, Retarget, Begin, Submit, Withdraw, Hear, Silence, NextReport, Tick, Write, after_call, after_calls, bus_calls, bus_calls_along, submits, withdraws}
 
 -- what the panel keeps beside its bus leaves the bus
 lasts_so : (late : Bool) (until : ℕ) (p : PanelState) → (if late then record p { last = None; withheld = true } else record p { last = Some until }).bus ≡ p.bus
@@ -91,6 +91,7 @@ one_call (Submit entry command until) p =
     submits_so (give_refusal entry command p) entry command until p (by_orders (orders_at entry p) entry command p.bus)
 one_call (Withdraw entry) p = refl
 one_call (Hear bytes now) p = refl
+one_call (Silence now) p = refl
 one_call NextReport p = settles_so (has_report p.bus) (late_at p.bus.greatest p) p
 one_call (Tick now) p = ticks_so (holds_back now p) now p
 one_call (Write now) p = refl

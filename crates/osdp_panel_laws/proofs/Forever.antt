@@ -8,7 +8,7 @@ use Rattle.osdp_bus.specs.declared.entry.Entry.{Entry}
 use Rattle.osdp_bus.specs.declared.fault.BusFault.{BusFault}
 use Rattle.osdp_bus.specs.Asking.{may_withdraw_of, orders_of, question}
 use Rattle.osdp_bus.specs.Buses.{BusState, device_of, has_report}
-use Rattle.osdp_bus.specs.Hearing.{after_bytes}
+use Rattle.osdp_bus.specs.Hearing.{after_bytes, after_silence}
 use Rattle.osdp_bus.specs.Machine.{add_refusal, after_next_report, after_withdraw_at, changed_unless}
 use Rattle.osdp_bus.specs.Ticking.{BusTicked, bus_ticks}
 use Rattle.osdp_controller.specs.declared.exchange.Asked.{Asked}
@@ -20,7 +20,7 @@ use Rattle.osdp_panel.specs.Orders.{Orders, PanelState, brings, kept, kept_from,
 use Rattle.osdp_panel.specs.Panels.{after_add_at, new_orders, new_panel}
 use Rattle.osdp_panel.specs.Sending.{holds_back, polled_by, rests, sends, sends_of, sent_at, until_asked, until_by}
 use Rattle.osdp_panel.specs.Telling.{expires}
-use Rattle.osdp_panel_laws.specs.Calls.{Call, Add, Retarget, Begin, Submit, Withdraw, Hear, NextReport, Tick, Write, after_call, after_calls}
+use Rattle.osdp_panel_laws.specs.Calls.{Call, Add, Retarget, Begin, Submit, Withdraw, Hear, Silence, NextReport, Tick, Write, after_call, after_calls}
 use Rattle.osdp_panel_laws.specs.Forever.{ForeverIsAsItsBus, IsAsItsBus, IsForever}
 
 -- the orders of an entry, and of all entries
@@ -99,6 +99,7 @@ one_call (Submit entry command until) p is last =
     subst (λ u. AllLast (after_call (Submit entry command u) p)) (sym is) (submits_so (give_refusal entry command p) entry command p last)
 one_call (Withdraw entry) p is last = kept_all p.orders 0 (after_withdraw_at entry p.bus) last
 one_call (Hear bytes now) p is last = kept_all p.orders 0 (after_bytes bytes now p.bus) last
+one_call (Silence now) p is last = kept_all p.orders 0 (after_silence now p.bus) last
 one_call NextReport p is last = settles_so (has_report p.bus) p last
 one_call (Tick now) p is last = ticks_so (holds_back now p) now p last
 one_call (Write now) p is last = last

@@ -15,7 +15,7 @@ use Rattle.osdp_panel.specs.Orders.{PanelState, brings}
 use Rattle.osdp_panel.specs.Panels.{after_add_at, new_panel}
 use Rattle.osdp_panel.specs.Sending.{after_tick, holds_back, lasts, polled_by, rests, sends, sends_of, sent_at, until_by, written, written_by}
 use Rattle.osdp_panel.specs.Telling.{after_settle, expires}
-use Rattle.osdp_panel_laws.specs.Calls.{Call, Add, Retarget, Begin, Submit, Withdraw, Hear, NextReport, Tick, Write, after_call, after_calls}
+use Rattle.osdp_panel_laws.specs.Calls.{Call, Add, Retarget, Begin, Submit, Withdraw, Hear, Silence, NextReport, Tick, Write, after_call, after_calls}
 use Rattle.osdp_panel_laws.proofs.Calling.{one_call as calls_so}
 use Rattle.osdp_panel_laws.specs.InTime.{GivesInTime, IsInTime}
 
@@ -44,6 +44,7 @@ one_call (Begin entry now) p u is = inl is
 one_call (Submit entry command until) p u is = inl (unless_so (give_refusal entry command p) p (after_give entry command until p) u refl is)
 one_call (Withdraw entry) p u is = inl is
 one_call (Hear bytes now) p u is = inl is
+one_call (Silence now) p u is = inl is
 one_call NextReport p u is = inl (settles_so (has_report p.bus) p u is)
 one_call (Tick now) p u is = inr (now, (refl, is))
 one_call (Write now) p u is = absurd cc

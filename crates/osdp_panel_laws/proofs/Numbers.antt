@@ -6,7 +6,7 @@ use Rattle.osdp_bus.specs.declared.entry.Entry.{Entry}
 use Rattle.osdp_bus.specs.declared.fault.BusFault.{BusFault}
 use Rattle.osdp_bus.specs.Asking.{question}
 use Rattle.osdp_bus.specs.Buses.{BusState, device_of, has_report}
-use Rattle.osdp_bus.specs.Hearing.{after_bytes}
+use Rattle.osdp_bus.specs.Hearing.{after_bytes, after_silence}
 use Rattle.osdp_bus.specs.Machine.{add_refusal, after_next_report, after_withdraw_at, changed_unless}
 use Rattle.osdp_bus.specs.Ticking.{bus_ticks}
 use Rattle.osdp_msg.specs.declared.command.Command.{Command}
@@ -16,7 +16,7 @@ use Rattle.osdp_panel.specs.Orders.{Orders, PanelState, brings, kept, kept_from,
 use Rattle.osdp_panel.specs.Panels.{after_add_at, new_orders}
 use Rattle.osdp_panel.specs.Sending.{holds_back, polled_by, rests, sends, sends_of, until_by}
 use Rattle.osdp_panel.specs.Telling.{expires}
-use Rattle.osdp_panel_laws.specs.Calls.{Call, Add, Retarget, Begin, Submit, Withdraw, Hear, NextReport, Tick, Write, after_call}
+use Rattle.osdp_panel_laws.specs.Calls.{Call, Add, Retarget, Begin, Submit, Withdraw, Hear, Silence, NextReport, Tick, Write, after_call}
 use Rattle.osdp_panel_laws.specs.Numbers.{CountsUp, accepts}
 
 -- the orders at a place, whose next number is this one
@@ -117,6 +117,7 @@ counts_up (Begin entry now) p k o at = stays k o p.orders at
 counts_up (Submit entry command until) p k o at = submits_so (give_refusal entry command p) entry k until command p o at
 counts_up (Withdraw entry) p k o at = kept_so p.orders k 0 (after_withdraw_at entry p.bus) o at
 counts_up (Hear bytes now) p k o at = kept_so p.orders k 0 (after_bytes bytes now p.bus) o at
+counts_up (Silence now) p k o at = kept_so p.orders k 0 (after_silence now p.bus) o at
 counts_up NextReport p k o at = settles_so (has_report p.bus) k p o at
 counts_up (Tick now) p k o at = ticks_so (holds_back now p) now k p o at
 counts_up (Write now) p k o at = stays k o p.orders at

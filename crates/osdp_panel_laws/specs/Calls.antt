@@ -9,7 +9,7 @@ use Rattle.osdp_panel.specs.declared.fault.PanelFault.{PanelFault}
 use Rattle.osdp_panel.specs.Giving.{after_give, after_withdraw, give_refusal, late_at}
 use Rattle.osdp_panel.specs.Orders.{PanelState}
 use Rattle.osdp_panel.specs.Panels.{after_add_at, new_panel, panel_config}
-use Rattle.osdp_panel.specs.Sending.{after_hear, after_tick, after_write, holds_back}
+use Rattle.osdp_panel.specs.Sending.{after_hear, after_seen_silent, after_tick, after_write, holds_back}
 use Rattle.osdp_panel.specs.Telling.{after_settle}
 
 -- a call that may change a panel. An `add` for which there is no memory changes nothing, so it is left out
@@ -20,6 +20,7 @@ pub data Call : Type 0 where
   Submit : ℕ → Command → ℕ → Call
   Withdraw : ℕ → Call
   Hear : List ℕ → ℕ → Call
+  Silence : ℕ → Call
   NextReport : Call
   Tick : ℕ → Call
   Write : ℕ → Call
@@ -33,6 +34,7 @@ after_call (Begin entry now) p = record p { bus = changed_unless (begin_refusal_
 after_call (Submit entry command until) p = changed_unless (give_refusal entry command p) p (after_give entry command until p)
 after_call (Withdraw entry) p = after_withdraw entry p
 after_call (Hear bytes now) p = after_hear bytes now p
+after_call (Silence now) p = after_seen_silent now p
 after_call NextReport p = after_settle p
 after_call (Tick now) p = after_tick now p
 after_call (Write now) p = after_write now p
@@ -60,6 +62,7 @@ bus_calls (Begin entry now) p = bus.Begin entry now ∷ []
 bus_calls (Submit entry command until) p = submits (give_refusal entry command p) entry command
 bus_calls (Withdraw entry) p = bus.Withdraw entry ∷ []
 bus_calls (Hear bytes now) p = bus.OnBytes bytes now ∷ []
+bus_calls (Silence now) p = bus.OnSilence now ∷ []
 bus_calls NextReport p = if has_report p.bus then bus.NextReport ∷ [] else withdraws (late_at p.bus.greatest p)
 bus_calls (Tick now) p = (if holds_back now p then bus.OnBytes [] now else bus.Tick now) ∷ []
 bus_calls (Write now) p = bus.OnBytes [] now ∷ []
