@@ -44,9 +44,8 @@ ASKED = {
     ),
     "osdp_calls_instance": (
         ("osdp_calls_instance",),
-        (("osdp_calls_instance::laws_speak_of_programs", "osdp_calls_instance::run_keeps_rule", "osdp_calls_instance::stands_on_calls"), ("osdp_calls_instance::calls_for_c_are_calls", "osdp_calls_instance::lines_are_calls", "osdp_calls_instance::run_keeps_order")),
-        {"CPrograms": ("c_panel", "c_device"), "LinePrograms": ("PanelLineFits", "DeviceLineFits"), "OwnCalls": ("OwnFits", "FitsAt", "AllFit"), "SimulatedOrder": ("IsOrdered", "AllOrdered", "IsTaken", "AllRuled"),
-         "SimulatedBus": ("sim_panel", "BurstFits", "HandsBytes"), "SimulatedPremises": ("OrdersNoComset", "HandsShort")},
+        (("osdp_calls_instance::laws_speak_of_programs", "osdp_calls_instance::stands_on_calls"), ("osdp_calls_instance::calls_for_c_are_calls", "osdp_calls_instance::lines_are_calls")),
+        {"CPrograms": ("c_panel", "c_device"), "LinePrograms": ("PanelLineFits", "DeviceLineFits"), "OwnCalls": ("OwnFits", "FitsAt", "AllFit")},
     ),
     "osdp_entry_numbers": (
         ("osdp_entry_numbers",),
@@ -56,7 +55,7 @@ ASKED = {
     "osdp_programs_ledger": (
         ("osdp_programs_ledger", "osdp_program_days"),
         (("osdp_program_days::a_day_in_c_keeps_the_premises", "osdp_program_days::a_day_by_lines_keeps_the_premises", "osdp_program_days::a_day_in_c_has_entries_in_any_order"),
-         ("osdp_programs_ledger::c_programs_hold_once", "osdp_programs_ledger::line_programs_hold_once", "osdp_programs_ledger::runs_hold_once",
+         ("osdp_programs_ledger::c_programs_hold_once", "osdp_programs_ledger::line_programs_hold_once",
           "osdp_programs_ledger::c_programs_hold_once_in_any_order", "osdp_programs_ledger::line_programs_hold_once_in_any_order")),
         {"Programs": ("AreTheirCalls",), "OwnOrder": ("AreOwnCalls",)},
     ),

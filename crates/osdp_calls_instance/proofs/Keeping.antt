@@ -8,21 +8,26 @@ use Rattle.osdp_calls_instance.proofs.Common.{CapabilityFits, Command, Sum, bus_
 use Rattle.osdp_premises.proofs.Exactly.{fair_keep}
 use Rattle.osdp_premises.proofs.LongDay.{AllRanges, all_range, id_fits, room_fits}
 use Rattle.osdp_premises.proofs.Ruling.{ruled_keep}
+use Rattle.osdp_premises.proofs.SettingUp.{MayStand, set_up_of}
+use Rattle.osdp_premises.specs.LongDay.{station_at}
 use Rattle.osdp_calls_instance.specs.Instance.{SomeCallsKeep, set_up, some_calls}
 use Rattle.osdp_calls_instance.specs.Rule.{TwoCallsKeepRule}
-use Rattle.osdp_calls_instance.specs.SimulatedDay.{given_at, two_given}
-use Rattle.osdp_calls_instance.proofs.SimSetUp.{runs_from_a_set_up}
-use Rattle.osdp_calls_instance.proofs.SimulatedDay.{settings as two_settings}
 
 in_range : IsBusConfig settings
 in_range = bus_in_range Sum four 3 ((omega arith, omega arith), omega arith, omega arith) (omega arith, omega arith)
 
+once_in_range : IsBusConfig once
+once_in_range = bus_in_range Sum four 1 ((omega arith, omega arith), omega arith, omega arith) (omega arith, omega arith)
+
 module _ {H : Type 0} (answer_of : H → Command → Answer) (after : H → Command → H) where
+  stands : (address : ℕ) (handler : H) → address < 127 → MayStand (station_at address handler)
+  stands address handler low = record { address = low; stores = tt; place = (refl, refl) }
+
   -- ---- one entry
 
   is_set_up : (handler : H) → IsSetUp (set_up handler)
-  is_set_up handler = runs_from_a_set_up settings (given_at 0 handler ∷ []) 20
-      (record { each = refl; bus = in_range })
+  is_set_up handler =
+      set_up_of settings [] (set_up handler) in_range refl (stands 0 handler (omega arith), tt) refl (refl, refl, refl)
 
   ranges : (handler : H) → AllRanges answer_of after (some_calls handler) (set_up handler)
   unfolding items left_over decided reply_of reply_fault reply_at command_of command_fault command_at
@@ -48,7 +53,7 @@ module _ {H : Type 0} (answer_of : H → Command → Answer) (after : H → Comm
   pub two_keep : (handler : H) → TwoCallsKeep answer_of after handler
   unfolding items left_over decided reply_of reply_fault reply_at command_of command_fault command_at
   two_keep handler = record {
-    up = runs_from_a_set_up once (two_given handler) 20 (two_settings answer_of after handler);
+    up = set_up_of once [] (two_set_up handler) once_in_range refl (stands 0 handler (omega arith), (stands 1 handler (omega arith), tt)) refl (refl, refl, refl);
     keep = fair_keep answer_of after two_calls (two_set_up handler) refl (all_range answer_of after two_calls (two_set_up handler) (two_ranges handler));
     openings = refl;
     told = refl;

@@ -4,9 +4,4 @@ pub mod Rule
 pub mod OwnCalls
 pub mod LinePrograms
 pub mod CPrograms
-pub mod SimulatedBus
-pub mod SimulatedReports
-pub mod SimulatedPremises
-pub mod SimulatedOrder
 pub mod Fitting
-pub mod SimulatedDay

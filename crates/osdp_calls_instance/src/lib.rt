@@ -1,4 +1,4 @@
-//! Lists of calls that keep the premises of `osdp_calls`, and those of programs in C, by lines and on a simulated line.
+//! Lists of calls that keep the premises of `osdp_calls`, and those of programs in C and by lines.
 //!
 //! So the premises are not empty, and the theorem of any calls names what such programs call. The functions do nothing: their contracts are laws.
 #![tactic(auto)]
@@ -9,11 +9,6 @@ ghost use Rattle.osdp_calls_instance.specs.Instance.{SomeCallsKeep};
 ghost use Rattle.osdp_calls_instance.specs.LinePrograms.{LinesAreThese, PanelLinesAreCalls, PanelsRunAnew, line_device, line_panel};
 ghost use Rattle.osdp_calls_instance.specs.OwnCalls.{CallTheLine, StandsOnCalls};
 ghost use Rattle.osdp_calls_instance.specs.Rule.{TwoCallsKeepRule};
-ghost use Rattle.osdp_calls_instance.specs.SimulatedBus.{RunIsCalls, RunsFromASetUp};
-ghost use Rattle.osdp_calls_instance.specs.SimulatedDay.{SomeSchedulesAreTaken};
-ghost use Rattle.osdp_calls_instance.specs.SimulatedOrder.{RunKeepsOrder, RunKeepsRule};
-ghost use Rattle.osdp_calls_instance.specs.SimulatedPremises.{RunIsInRange, RunKeepsAddresses, StepsAreExact};
-ghost use Rattle.osdp_calls_instance.specs.SimulatedReports.{RunTakesTheSame, RunTellsTheSame};
 ghost use Rattle.osdp_calls_instance.specs.TwoEntries.{TwoCallsKeep};
 ghost use Rattle.osdp_device.specs.Program.{program_after, program_answer};
 ghost use Rattle.osdp_device.specs.Status.{status_after, status_answer};
@@ -80,14 +75,9 @@ pub fn lines_are_calls()
 /// anew as another model. Of lines to a panel they speak of each, but of a run anew with entries that can't be added;
 /// two at different addresses can. Of lines to a device they speak of each, also of one by which a key leaves that is in doubt, and of one by which a
 /// key leaves that was never offered.
-///
-/// Of a schedule's steps they ask what goes over the line of one that hands the readers a burst alone, and a step orders no COMSET exactly where it is no
-/// order of one. Some schedule is taken that orders none, in which a session begins again. One is taken that orders one, and its run keeps to the rule.
 pub fn laws_speak_of_programs<H: Handler>()
     ensures c { CallsForCFit H }
     ensures lines { LinesFit H }
-    ensures steps { StepsAreExact H }
-    ensures schedules { (handler : H) → SomeSchedulesAreTaken H.answer_of H.after handler }
 {}
 
 /// A panel in C or by lines may stand on a line with any devices: what it calls are calls of the panel, which do to its bus what they do.
@@ -96,56 +86,4 @@ pub fn panels_stand_beside_any_devices<H: Handler>()
     ensures lines { PanelLinesAreCalls H }
 {
     osdp_calls::adds_make_the_bus();
-}
-
-/// The run of a schedule by `run_bus` is a list of calls of a line in use, which leads to the same bus and readers. A session of each reader is begun, and
-/// then each step is the calls that `step_calls` names. A burst that comes to the readers is handed to a device for each, one after the other, and then the
-/// line falls silent. After all of them the bus and the readers are those of the run. The line that they begin on is set up, where the settings are in
-/// their ranges.
-pub fn run_is_calls<H: Handler>()
-    ensures set_up { RunsFromASetUp H }
-    ensures calls { RunIsCalls H.answer_of H.after }
-{
-    osdp_calls::ends_go_by_their_own_calls::<H>();
-}
-
-/// After such a run the account of each reader says what the calls do. Over a bus to which the entries can be added both have the same reports: the commands
-/// that are settled, each with its answer, those that are told in doubt, and the events that are reported. And the same commands are taken.
-pub fn run_tells_the_same<H: Handler>()
-    ensures reports { RunTellsTheSame H.answer_of H.after }
-    ensures takes { RunTakesTheSame H.answer_of H.after }
-{
-    stands_on_calls::<H>();
-    osdp_bus_laws::reports_are_told_once();
-    osdp_sim_bus::laws::tells_at_once::<H>();
-    osdp_sim_bus::laws::has_an_account_each::<H>();
-}
-
-/// The calls that such a run is keep values in their ranges, where what goes over the line has its fields in theirs. Where no COMSET is ordered they keep
-/// the premise on addresses.
-pub fn run_keeps_ranges_and_addresses<H: Handler>()
-    ensures ranges { RunIsInRange H.answer_of H.after }
-    ensures addresses { RunKeepsAddresses H.answer_of H.after }
-{
-    osdp_calls::ends_go_by_their_own_calls::<H>();
-}
-
-/// Where no step of such a schedule orders a COMSET, the calls of its run keep to the rule for programs that stands for the premise on addresses.
-pub fn run_keeps_rule<H: Handler>()
-    ensures { RunKeepsRule H.answer_of H.after }
-{}
-
-/// The calls that such a run is keep order and quiet openings, where fields are in their ranges and no step is refused. This asks that its settings are in
-/// their ranges too, and that no burst that comes to the readers is longer than a packet. Then each packet that the run reads is a copy of a burst that was
-/// said, and each burst has its place in what was said. With these places the calls keep order and quiet openings: a simulated line hands bursts over in
-/// order, damage spells no packet, and a session begins again on a quiet line alone. So they keep all premises where no step orders a COMSET, and where the
-/// programs keep to the rule that stands for the premise on addresses.
-pub fn run_keeps_order<H: Handler>()
-    ensures { RunKeepsOrder H.answer_of H.after }
-{
-    osdp_calls::calls_rule_suffices::<H>();
-    osdp_calls::ends_go_by_their_own_calls::<H>();
-    osdp_calls::hands_over_what_is_read();
-    osdp_link_laws::reads_what_is_asked();
-    osdp_sim_bus_laws::schedules_are_moves::<H>();
 }

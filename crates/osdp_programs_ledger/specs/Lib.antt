@@ -1,3 +1,2 @@
 pub mod Programs
-pub mod Schedules
 pub mod OwnOrder

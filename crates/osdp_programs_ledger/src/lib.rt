@@ -1,5 +1,4 @@
-//! What makers' programs are promised, by the ledger of each entry: programs in C, by lines, and over a simulated line. The functions do nothing: their
-//! contracts are laws.
+//! What makers' programs are promised, by the ledger of each entry: programs in C and by lines. The functions do nothing: their contracts are laws.
 #![tactic(auto)]
 
 ghost use Rattle.osdp_calls_instance.specs.CPrograms.{c_device, c_panel};
@@ -8,10 +7,8 @@ ghost use Rattle.osdp_device.specs.Program.{program_after, program_answer};
 ghost use Rattle.osdp_device.specs.Status.{status_after, status_answer};
 ghost use Rattle.osdp_programs_ledger.specs.OwnOrder.{AnyProgramsKeep, OwnProgramsHoldOnce};
 ghost use Rattle.osdp_programs_ledger.specs.Programs.{ProgramsHoldOnce, RuledProgramsHoldOnce};
-ghost use Rattle.osdp_programs_ledger.specs.Schedules.{RunsHoldOnce};
 
 use osdp_device::{DeviceStatus, ProgramAnswers};
-use osdp_reader::Handler;
 
 /// Whatever programs in C call, each entry of the panel keeps the ledger's promises, where these calls keep the premises. Losses of power are among the
 /// calls, and the premises are those of the calls of a line in use that these are: so no entry is added to a panel in use. A panel that is made anew lets a POLL
@@ -38,19 +35,6 @@ pub fn line_programs_hold_once()
     osdp_calls_instance::lines_are_calls();
     osdp_calls_ledger::ledger_holds_once::<DeviceStatus>();
     osdp_calls::calls_rule_suffices::<DeviceStatus>();
-}
-
-/// The same of each reader of a run of a schedule over a bus, as the calls that the run is, where they keep the premises. Its reader and its entry are as
-/// the run leaves them. What the steps come to is what the account of the run tells: the commands accepted, those taken, those settled, each with its
-/// answer, and those told unsettled; and the events accepted and reported.
-pub fn runs_hold_once<H: Handler>()
-    ensures { RunsHoldOnce H.answer_of H.after }
-{
-    osdp_calls::ends_go_by_their_own_calls::<H>();
-    osdp_calls_instance::run_is_calls::<H>();
-    osdp_calls_instance::run_tells_the_same::<H>();
-    osdp_calls_ledger::each_keeps_ledger::<H>();
-    osdp_calls_ledger::ledger_holds_once::<H>();
 }
 
 /// What programs in C are promised holds, too, where the panel's entries stand in any order, with entries of others between ours, and where the panel is
