@@ -61,7 +61,7 @@ pub use Rattle.osdp_msg.specs.CommandTable.{command_code}
 pub use Rattle.osdp_bus_laws.proofs.Fairness.{begun_ticked, stands_after}
 pub use Rattle.osdp_bus_order_laws.specs.Pacing.{asked_at, goes_out, heard_along, is_closed_at, is_heard, is_polling, polls_at, PollsStandBetween}
 pub use Rattle.osdp_bus_order_laws.specs.Places.{accepted, accepted_in, given, left, OrdersKeepTheirPlaces, taken_back_in, waiting_orders}
-pub use Rattle.osdp_bus_order_laws.specs.InTime.{OrderGoesOutBy, OrdersBetweenInTime, OrdersGoOutBetween}
+pub use Rattle.osdp_bus_order_laws.specs.InTime.{OrderLeavesBy, OrdersLeaveInTime, OrdersLeaveInTurns}
 pub use Rattle.osdp_controller.specs.Sessions.{is_poll_next}
 pub use Rattle.osdp_controller.specs.Ticking.{Ticked, ticks_in}
 pub use Rattle.osdp_controller.specs.Machine.{acts}

@@ -1,59 +1,68 @@
--- By when an order has gone out: after each order of its entry a POLL begins within the interval and a turn of each entry, where one has to come first, and the next order
+-- By when an order has left those that wait: after each order of its entry a POLL begins within the interval and a turn of each entry, where one has to come first, and the next order
 -- within one turn of each entry more.
-use Rattle.osdp_bus_order_laws.proofs.Common.{◌≡◌, ◌∙◌, ap, sym, subst, inl, inr, refl, ℕ, zero, suc, ◌+◌, ◌*◌, ◌≤◌, ◌&&◌, ◌==◌, Bool, true, false, List, [], ◌∷◌, ◌++◌, length, append_assoc, append-nil, Option, Some, None, ◌⊎◌, if◌then◌else◌, is_none, is_some, slice_get, eq-eqb, eqb-true, arith, Ok, Command, State, is_closed, is_under_way, is_idle, exchange_in, lives, next_product, BusConfig, Entry, BusState, device_of, holds, submit_refusal_at, withdrawal_at, withdrawal_of, Call, Submit, Withdraw, after_call, Begins, IsOutstandingAt, stands_after, has_one_exchange, decide, one_device, moments_are_seen, exchange_of, IsAccepted, IsUnderWay, BeginsBy, EndsBy, HasFew, KeepsTurns, NoneBegins, others_of, turns_of, TurnsTake, KeepsTime, same_config, Well, well_call, asked_at, goes_out, accepted_in, given, taken_back_in, waiting_orders, OrderGoesOutBy, OrdersBetweenInTime, OrdersGoOutBetween}
+use Rattle.osdp_bus_order_laws.proofs.Common.{◌≡◌, ◌∙◌, ap, sym, subst, inl, inr, refl, ℕ, zero, suc, ◌+◌, ◌*◌, ◌≤◌, ◌&&◌, ◌==◌, Bool, true, false, List, [], ◌∷◌, ◌++◌, length, append_assoc, append-nil, Option, Some, None, ◌⊎◌, if◌then◌else◌, is_none, is_some, slice_get, eq-eqb, eqb-true, arith, Ok, Command, State, is_closed, is_under_way, is_idle, exchange_in, lives, next_product, BusConfig, Entry, BusState, device_of, holds, submit_refusal_at, withdrawal_at, withdrawal_of, Call, Submit, Withdraw, after_call, Begins, IsOutstandingAt, stands_after, has_one_exchange, decide, one_device, moments_are_seen, exchange_of, IsAccepted, IsUnderWay, BeginsBy, EndsBy, HasFew, KeepsTurns, NoneBegins, others_of, turns_of, TurnsTake, KeepsTime, same_config, Well, well_call, asked_at, goes_out, accepted_in, given, taken_back_in, waiting_orders, OrderLeavesBy, OrdersLeaveInTime, OrdersLeaveInTurns}
 use Rattle.std.proofs.Math.Nat.{suc-mul}
-use Rattle.osdp_bus_time_laws.specs.Laws.{TakesNoneBack}
+use Rattle.std.specs.Option.{option_or}
+use Rattle.osdp_bus.specs.Machine.{entry_withdraws}
+use Rattle.osdp_bus_order_laws.specs.Places.{leaves_in}
 use Rattle.osdp_time_laws.proofs.Orders.{at_rest}
 use Rattle.osdp_bus_time_laws.proofs.Asking.{same_next}
 use Rattle.osdp_bus_time_laws.proofs.InTime.{keeps_turns, same_turns}
 use Rattle.osdp_bus_time_laws.proofs.Ordered.{rest_due}
 use Rattle.osdp_bus_time_laws.proofs.Places.{AtPlace}
 use Rattle.osdp_bus_time_laws.proofs.Sums.{all_turns}
-use Rattle.osdp_bus_time_laws.proofs.Turning.{Ready, ends_later, has_its_turn, held_before, is_there}
-use Rattle.osdp_bus_order_laws.proofs.Along.{asks_out, decide_at, holding_on, none_out, one_place, out_is, waiting_is}
-use Rattle.osdp_bus_order_laws.proofs.Calls.{Asks, asks, goes, listed}
+use Rattle.osdp_bus_time_laws.proofs.Turning.{BeginsWhile, Ready, Stays, begins_then_while, ends_later, has_its_turn, has_its_turn_while, held_before, is_there}
+use Rattle.osdp_bus_order_laws.proofs.Along.{asks_out, decide_at, fresh_out, holding_on, none_out, one_place, out_is, waiting_is}
+use Rattle.osdp_bus_order_laws.proofs.Calls.{Asks, asks, changed_here, goes, listed}
 use Rattle.osdp_bus_order_laws.proofs.Devices.{Ordered, Polled, next, waits}
 use Rattle.osdp_bus_order_laws.proofs.Hearing.{asked}
 
 -- ---- the places of those that wait
 
-abbrev TakesNone : ℕ → Call → BusState → Type 0
-TakesNone entry call b = call ≡ Withdraw entry → withdrawal_at entry b ≡ Ok None
-
-none_back : (entry : ℕ) (call : Call) (b : BusState) → TakesNone entry call b → taken_back_in entry call b ≡ None
-none_back entry (Withdraw at) b none = by_same (at == entry) refl
+-- none goes out as one is taken back
+one_leaves : (entry : ℕ) (call : Call) (b : BusState) → Well b → (goes_out entry call b ≡ None) ⊎ (taken_back_in entry call b ≡ None)
+one_leaves entry (Withdraw at) b well = inl (by_device (device_of entry b) refl)
   where
-    by_same : (t : Bool) → (at == entry) ≡ t → (if t then given (withdrawal_at at b) else None) ≡ None
-    by_same false apart = refl
-    by_same true same =
-        let here : at ≡ entry = eqb-true at entry same in
-        ap (λ (n : ℕ). given (withdrawal_at n b)) here ∙ ap (λ r. given r) (none (ap (λ (n : ℕ). Withdraw n) here))
-none_back entry _ b none = refl
+    by_device : (o : Option Entry) → device_of entry b ≡ o → goes_out entry (Withdraw at) b ≡ None
+    by_device None none = fresh_out entry (Withdraw at) b none
+    by_device (Some d) there =
+        let k = goes entry d b there (Withdraw at) well.sound (λ begun. let is = begun.tick in cc) in
+        out_is entry (Withdraw at) d k.device b there k.there ∙ none_out d k.device k.keeps
+one_leaves entry _ b well = inr refl
+
+listed_leaves : (a b : Option Command) → (a ≡ None) ⊎ (b ≡ None) → listed a ++ listed b ≡ listed (option_or a b)
+listed_leaves None b h = refl
+listed_leaves (Some c) None h = refl
+listed_leaves (Some c) (Some d) (inl none) = absurd cc
+listed_leaves (Some c) (Some d) (inr none) = absurd cc
+
+none_first : (a b : Option Command) → option_or a b ≡ None → a ≡ None
+none_first None b none = refl
+none_first (Some c) b none = absurd cc
 
 -- those that wait, with so many before the order
 abbrev Waits : ℕ → List Command → Command → List Command → BusState → Type 0
 Waits entry ahead command later b = waiting_orders entry b ≡ ahead ++ command ∷ later
 
-module _ (entry : ℕ) (call : Call) (b : BusState) (well : Well b) (none : TakesNone entry call b)
-    (ahead later : List Command) (command : Command) (waiting : Waits entry ahead command later b) where
+module _ (entry : ℕ) (call : Call) (b : BusState) (well : Well b) (ahead later : List Command) (command : Command) (waiting : Waits entry ahead command later b) where
   abbrev come : List Command
   come = later ++ listed (accepted_in entry call b)
 
-  placed : listed (goes_out entry call b) ++ waiting_orders entry (after_call call b) ≡ ahead ++ command ∷ come
+  placed : listed (leaves_in entry call b) ++ waiting_orders entry (after_call call b) ≡ ahead ++ command ∷ come
   placed =
-      sym (ap (λ l. l ++ waiting_orders entry (after_call call b)) (append-nil (listed (goes_out entry call b))))
-      ∙ sym (ap (λ o. (listed (goes_out entry call b) ++ listed o) ++ waiting_orders entry (after_call call b)) (none_back entry call b none))
+      sym (ap (λ l. l ++ waiting_orders entry (after_call call b))
+      (listed_leaves (goes_out entry call b) (taken_back_in entry call b) (one_leaves entry call b well)))
       ∙ one_place entry call b well
       ∙ ap (λ l. l ++ listed (accepted_in entry call b)) waiting
       ∙ append_assoc ahead (command ∷ later) (listed (accepted_in entry call b))
 
-  stays_placed : goes_out entry call b ≡ None → Waits entry ahead command come (after_call call b)
+  stays_placed : leaves_in entry call b ≡ None → Waits entry ahead command come (after_call call b)
   stays_placed nothing = sym (ap (λ o. listed o ++ waiting_orders entry (after_call call b)) nothing) ∙ placed
 
-  gone : (sent : Command) → goes_out entry call b ≡ Some sent → sent ∷ waiting_orders entry (after_call call b) ≡ ahead ++ command ∷ come
+  gone : (sent : Command) → leaves_in entry call b ≡ Some sent → sent ∷ waiting_orders entry (after_call call b) ≡ ahead ++ command ∷ come
   gone sent is = sym (ap (λ o. listed o ++ waiting_orders entry (after_call call b)) is) ∙ placed
 
-  is_first : (sent : Command) → length ahead ≡ 0 → goes_out entry call b ≡ Some sent → sent ≡ command
+  is_first : (sent : Command) → length ahead ≡ 0 → leaves_in entry call b ≡ Some sent → sent ≡ command
   is_first sent empty is = by_ahead ahead empty (gone sent is)
     where
       by_ahead : (ahead : List Command) → length ahead ≡ 0 → sent ∷ waiting_orders entry (after_call call b) ≡ ahead ++ command ∷ come → sent ≡ command
@@ -66,7 +75,7 @@ module _ (entry : ℕ) (call : Call) (b : BusState) (well : Well b) (none : Take
     many : length sooner ≡ before
     fewer : Waits entry sooner command come (after_call call b)
 
-  is_next : (before : ℕ) (sent : Command) → length ahead ≡ suc before → goes_out entry call b ≡ Some sent → Fewer before
+  is_next : (before : ℕ) (sent : Command) → length ahead ≡ suc before → leaves_in entry call b ≡ Some sent → Fewer before
   is_next before sent many is = by_ahead ahead many (gone sent is)
     where
       by_ahead : (ahead : List Command) → length ahead ≡ suc before → sent ∷ waiting_orders entry (after_call call b) ≡ ahead ++ command ∷ come → Fewer before
@@ -112,6 +121,9 @@ ordered_fits false g own late others interval turns more all limit sum product f
 rest_fits : (e late others interval turns more limit : ℕ) → e + late + others + (interval + turns) + more ≤ limit → ((e + interval) + late + others) + turns + more ≤ limit
 rest_fits e late others interval turns more limit fits = omega arith
 
+less_fits : (x more each all limit : ℕ) → all ≡ more + each → x + all ≤ limit → x + more ≤ limit
+less_fits x more each all limit product fits = omega arith
+
 first_end : (t : Bool) (g own late others interval turns more all : ℕ) → others + (own + late) ≡ turns → all ≡ more + (interval + 2 * turns)
     → (g + own) + late + others + after_end t interval turns + more ≤ g + all
 first_end true g own late others interval turns more all sum product = omega arith
@@ -146,7 +158,7 @@ module _ (late : ℕ) (time : ℕ → ℕ) (n own limit interval : ℕ) where
   -- the exchange of the entry that is outstanding ends by a moment, or another begins by one
   record Stage (before : ℕ) (calls : List Call) (b : BusState) (d : Entry) : Type 0 where
     out : holds d ≡ true → (e : ℕ) × EndsBy e calls b × (e + late + others_of time late n own + after_end (next d) interval (turns_of time late n) + before * (interval + 2 * turns_of time late n) ≤ limit)
-    idle : holds d ≡ false → (m : ℕ) × BeginsBy m own calls b × (m + after_begin (next d) (turns_of time late n) + before * (interval + 2 * turns_of time late n) ≤ limit)
+    idle : holds d ≡ false → (m : ℕ) × BeginsWhile 1 m own calls b × (m + after_begin (next d) (turns_of time late n) + before * (interval + 2 * turns_of time late n) ≤ limit)
 
   abbrev Stages : ℕ → List Call → BusState → Type 0
   Stages before calls b = (under : IsUnderWay own b) → Stage before calls b under.device
@@ -161,9 +173,10 @@ module _ (late : ℕ) (time : ℕ → ℕ) (n own limit interval : ℕ) where
     idle_state : is_idle d.controller.session.state ≡ true
     idle_state = at_rest d.controller.session.state under.under_way free
 
-    pub polls_by : BeginsBy ((e + interval) + late + others) own calls b
+    pub polls_by : BeginsWhile 1 ((e + interval) + late + others) own calls b
     polls_by =
-        has_its_turn late time n own (e + interval) 0 calls b well in_time take few (inl refl) (omega arith) (
+        begins_then_while 1 ((e + interval) + late + others) own calls b
+        (has_its_turn late time n own (e + interval) 0 calls b well in_time take few (inl refl) (omega arith) (
           d,
           under.there,
           (
@@ -173,11 +186,11 @@ module _ (late : ℕ) (time : ℕ → ℕ) (n own limit interval : ℕ) where
             inl (rest_due interval e b d (well.devices own d under.there) idle_state soon settings),
           ),
         )
-        (λ k out. ends_later (e + time k) (e + interval + time k) calls b (omega arith) (ends k out))
+        (λ k out. ends_later (e + time k) (e + interval + time k) calls b (omega arith) (ends k out)))
 
-    pub asks_by : TakesNoneBack own calls b → next d ≡ false → BeginsBy (e + late + others) own calls b
-    asks_by none may =
-        has_its_turn late time n own e 1 calls b well in_time take few (inr none) soon
+    pub asks_by : next d ≡ false → BeginsWhile 1 (e + late + others) own calls b
+    asks_by may =
+        has_its_turn_while late time n own e 1 calls b well in_time take few soon
         (d, under.there, (lives d.controller.session.state under.under_way, free, some, inr (idle_state, may, omega arith))) ends
 
   module _ (call : Call) (calls : List Call) (b : BusState) (well : Well b) (take : TurnsTake time (call ∷ calls) b) (few : HasFew n (call ∷ calls) b)
@@ -244,7 +257,7 @@ module _ (late : ℕ) (time : ℕ → ℕ) (n own limit interval : ℕ) where
     -- none of the entry begins
     module _ (before : ℕ) (stage : Stage before (call ∷ calls) b under.device) (not : Begins call own b → ⊥) (in_time : KeepsTime late calls (after_call call b))
         (few_then : HasFew n calls (after_call call b)) (settings : (after_call call b).config.poll_interval ≤ interval) (under_then : IsUnderWay own (after_call call b))
-        (some : 1 ≤ length (waits under_then.device)) (none_then : TakesNoneBack own calls (after_call call b)) where
+        (some : 1 ≤ length (waits under_then.device)) (stay : Stays 1 own call b) where
       same_poll : next under_then.device ≡ next under.device
       same_poll =
           let k = goes own under.device b under.there call well.sound not in
@@ -279,7 +292,7 @@ module _ (late : ℕ) (time : ℕ → ℕ) (n own limit interval : ℕ) where
           absurd (let holding = ap holds (sym one) ∙ out.outstanding in cc)
 
       abbrev Idle : Type 0
-      Idle = (m : ℕ) × BeginsBy m own calls (after_call call b) × (m + after_begin (next under_then.device) turns + before * each ≤ limit)
+      Idle = (m : ℕ) × BeginsWhile 1 m own calls (after_call call b) × (m + after_begin (next under_then.device) turns + before * each ≤ limit)
 
       ended_by : (free : holds under_then.device ≡ false) (stands : holds under.device ≡ true) → (t : Bool) → next under_then.device ≡ t → Idle
       ended_by free stands t is = by_next t is
@@ -308,7 +321,7 @@ module _ (late : ℕ) (time : ℕ → ℕ) (n own limit interval : ℕ) where
           )
           by_next false is = (
             e + late + others,
-            asks_by calls (after_call call b) (well_call call b well) in_time take.1 few_then settings under_then some free e soon ends none_then is,
+            asks_by calls (after_call call b) (well_call call b well) in_time take.1 few_then settings under_then some free e soon ends is,
             subst (λ (t : Bool). (e + late + others) + after_begin t turns + before * each ≤ limit) (sym is) (fits false is),
           )
 
@@ -316,7 +329,7 @@ module _ (late : ℕ) (time : ℕ → ℕ) (n own limit interval : ℕ) where
       idle_by free false idle =
           let way = stage.idle idle in (
             way.0,
-            way.1.1 not,
+            way.1.1 not stay,
             subst (λ (t : Bool). way.0 + after_begin t turns + before * each ≤ limit) (sym same_poll) way.2,
           )
       idle_by free true stands = ended_by free stands (next under_then.device) refl
@@ -335,12 +348,18 @@ module _ (late : ℕ) (time : ℕ → ℕ) (n own limit interval : ℕ) where
         Polled x.quiet (next under.device) (waits under.device) (exchange_in x.device.controller.session.state) (asked x.device) (waits x.device)
         ⊎ Ordered (next under.device) (waits under.device) (asked x.device) (waits x.device)
 
-    -- no order goes out
+    -- the order waits on, so where one is taken back the entry has one more
+    one_more : (call : Call) (b : BusState) (sooner more : List Command) → Waits own sooner command more (after_call call b) → Stays 1 own call b
+    one_more call b sooner more waiting = λ d there is some.
+        let then = ap (λ (c : Call). device_of own (after_call c b)) is ∙ changed_here own entry_withdraws d b there in
+        waits_then sooner more (after_call call b) (entry_withdraws d) waiting then
+
+    -- no order goes out, and the order waits on
     none_stages : (before : ℕ) (call : Call) (calls : List Call) (b : BusState) → Well b → KeepsTime late (call ∷ calls) b → TurnsTake time (call ∷ calls) b
-        → HasFew n (call ∷ calls) b → b.config.poll_interval ≤ interval → (ahead later : List Command) → Waits own ahead command later b
-        → TakesNoneBack own (call ∷ calls) b → Stages before (call ∷ calls) b → (under : IsUnderWay own b) → goes_out own call b ≡ None
+        → HasFew n (call ∷ calls) b → b.config.poll_interval ≤ interval → (ahead later sooner more : List Command) → Waits own ahead command later b
+        → Waits own sooner command more (after_call call b) → Stages before (call ∷ calls) b → (under : IsUnderWay own b) → goes_out own call b ≡ None
         → Stages before calls (after_call call b)
-    none_stages before call calls b well in_time take few settings ahead later waiting (back, back_then) stages under none = by_begun (decide_at own call b well)
+    none_stages before call calls b well in_time take few settings ahead later sooner more waiting then_waiting stages under none = by_begun (decide_at own call b well)
       where
         by_way : (begun : Begins call own b) → Ways call b under (a call calls b well take few under begun) → Stages before calls (after_call call b)
         by_way begun (inl p) =
@@ -352,9 +371,23 @@ module _ (late : ℕ) (time : ℕ → ℕ) (n own limit interval : ℕ) where
         by_begun (inr not) = λ under_then.
             stage_then call calls b well take few under before (stages under) not in_time.1 few.1
             (subst (λ (c : BusConfig). c.poll_interval ≤ interval) (sym (same_config call b)) settings) under_then
-            (waits_then ahead (come own call b well back ahead later command waiting) (after_call call b) under_then.device
-            (stays_placed own call b well back ahead later command waiting none) under_then.there)
-            back_then
+            (waits_then sooner more (after_call call b) under_then.device then_waiting under_then.there) (one_more call b sooner more then_waiting)
+
+    -- one fewer is before it
+    fewer_before : (before : ℕ) (calls : List Call) (b : BusState) → Stages (suc before) calls b → Stages before calls b
+    fewer_before before calls b stages = λ under.
+        let stage = stages under in
+        record {
+          out = λ stands.
+              let out = stage.out stands in (
+                out.0,
+                out.1,
+                less_fits (out.0 + late + others + after_end (next under.device) interval turns) (before * each) each (suc before * each) limit (suc-mul before each) out.2,
+              );
+          idle = λ free.
+              let idle = stage.idle free in
+              (idle.0, idle.1, less_fits (idle.0 + after_begin (next under.device) turns) (before * each) each (suc before * each) limit (suc-mul before each) idle.2);
+        }
 
     -- one does
     sent_stages : (before : ℕ) (call : Call) (calls : List Call) (b : BusState) → Well b → TurnsTake time (call ∷ calls) b → HasFew n (call ∷ calls) b
@@ -371,33 +404,48 @@ module _ (late : ℕ) (time : ℕ → ℕ) (n own limit interval : ℕ) where
             let k = goes own under.device b under.there call well.sound not in
             none_goes (goes_out own call b) sent is (out_is own call under.device k.device b under.there k.there ∙ none_out under.device k.device k.keeps)
 
-    goes_by : (before : ℕ) (calls : List Call) (b : BusState) → Well b → KeepsTime late calls b → TurnsTake time calls b → HasFew n calls b
-        → b.config.poll_interval ≤ interval → (ahead later : List Command) → Waits own ahead command later b → length ahead ≡ before → TakesNoneBack own calls b
-        → Stages before calls b → OrderGoesOutBy limit own command before calls b
-    goes_by before [] b well in_time take few settings ahead later waiting many back stages = tt
-    goes_by zero (call ∷ calls) b well in_time take few settings ahead later waiting many (back, back_then) stages = λ under. (
+    -- one leaves: it goes out, or is taken back
+    left_stages : (before : ℕ) (call : Call) (calls : List Call) (b : BusState) → Well b → KeepsTime late (call ∷ calls) b → TurnsTake time (call ∷ calls) b
+        → HasFew n (call ∷ calls) b → b.config.poll_interval ≤ interval → (ahead later sooner more : List Command) → Waits own ahead command later b
+        → Waits own sooner command more (after_call call b) → Stages (suc before) (call ∷ calls) b → (under : IsUnderWay own b) → Stages before calls (after_call call b)
+    left_stages before call calls b well in_time take few settings ahead later sooner more waiting then_waiting stages under = by_out (goes_out own call b) refl
+      where
+        by_out : (o : Option Command) → goes_out own call b ≡ o → Stages before calls (after_call call b)
+        by_out (Some sent) is = sent_stages before call calls b well take few stages under sent is
+        by_out None is =
+            fewer_before before calls (after_call call b)
+            (none_stages (suc before) call calls b well in_time take few settings ahead later sooner more waiting then_waiting stages under is)
+
+    leaves_by : (before : ℕ) (calls : List Call) (b : BusState) → Well b → KeepsTime late calls b → TurnsTake time calls b → HasFew n calls b
+        → b.config.poll_interval ≤ interval → (ahead later : List Command) → Waits own ahead command later b → length ahead ≡ before
+        → Stages before calls b → OrderLeavesBy limit own command before calls b
+    leaves_by before [] b well in_time take few settings ahead later waiting many stages = tt
+    leaves_by zero (call ∷ calls) b well in_time take few settings ahead later waiting many stages = λ under. (
       in_limit (after_call call b).greatest (after_begin (next under.device) turns) (0 * each) limit (near call calls b well take few under zero (stages under)),
-      λ sent is. is_first own call b well back ahead later command waiting sent many is,
+      λ gone is. is_first own call b well ahead later command waiting gone many is,
       λ none.
-          goes_by zero calls (after_call call b) (well_call call b well) in_time.1 take.1 few.1
-          (subst (λ (c : BusConfig). c.poll_interval ≤ interval) (sym (same_config call b)) settings) ahead
-          (come own call b well back ahead later command waiting) (stays_placed own call b well back ahead later command waiting none) many back_then
-          (none_stages zero call calls b well in_time take few settings ahead later waiting (back, back_then) stages under none),
+          let still = stays_placed own call b well ahead later command waiting none in
+          leaves_by zero calls (after_call call b) (well_call call b well) in_time.1 take.1 few.1
+          (subst (λ (c : BusConfig). c.poll_interval ≤ interval) (sym (same_config call b)) settings) ahead (come own call b well ahead later command waiting) still many
+          (none_stages zero call calls b well in_time take few settings ahead later ahead (come own call b well ahead later command waiting) waiting still stages under
+          (none_first (goes_out own call b) (taken_back_in own call b) none)),
     )
-    goes_by (suc before) (call ∷ calls) b well in_time take few settings ahead later waiting many (back, back_then) stages = λ under. (
+    leaves_by (suc before) (call ∷ calls) b well in_time take few settings ahead later waiting many stages = λ under. (
       in_limit (after_call call b).greatest (after_begin (next under.device) turns) (suc before * each) limit
           (near call calls b well take few under (suc before) (stages under)),
-      λ sent is.
-          let fewer = is_next own call b well back ahead later command waiting before sent many is in
-          goes_by before calls (after_call call b) (well_call call b well) in_time.1 take.1 few.1
+      λ gone is.
+          let fewer = is_next own call b well ahead later command waiting before gone many is in
+          leaves_by before calls (after_call call b) (well_call call b well) in_time.1 take.1 few.1
           (subst (λ (c : BusConfig). c.poll_interval ≤ interval) (sym (same_config call b)) settings) fewer.sooner
-          (come own call b well back ahead later command waiting) fewer.fewer fewer.many back_then
-          (sent_stages before call calls b well take few stages under sent is),
+          (come own call b well ahead later command waiting) fewer.fewer fewer.many
+          (left_stages before call calls b well in_time take few settings ahead later fewer.sooner (come own call b well ahead later command waiting) waiting fewer.fewer stages under),
       λ none.
-          goes_by (suc before) calls (after_call call b) (well_call call b well) in_time.1 take.1 few.1
+          let still = stays_placed own call b well ahead later command waiting none in
+          leaves_by (suc before) calls (after_call call b) (well_call call b well) in_time.1 take.1 few.1
           (subst (λ (c : BusConfig). c.poll_interval ≤ interval) (sym (same_config call b)) settings) ahead
-          (come own call b well back ahead later command waiting) (stays_placed own call b well back ahead later command waiting none) many back_then
-          (none_stages (suc before) call calls b well in_time take few settings ahead later waiting (back, back_then) stages under none),
+          (come own call b well ahead later command waiting) still many
+          (none_stages (suc before) call calls b well in_time take few settings ahead later ahead (come own call b well ahead later command waiting) waiting still stages under
+          (none_first (goes_out own call b) (taken_back_in own call b) none)),
     )
 
 -- ---- from its acceptance on
@@ -408,7 +456,7 @@ takes entry command b accepted =
     ∙ ap (λ f. if is_none f then Some command else None) accepted
 
 module _ (late : ℕ) (time : ℕ → ℕ) (n own interval before : ℕ) (calls : List Call) (b : BusState) (well : Well b) (keeps : KeepsTurns late time n calls b)
-    (settings : b.config.poll_interval ≤ interval) (under : IsUnderWay own b) (some : 1 ≤ length (waits under.device)) (none : TakesNoneBack own calls b) where
+    (settings : b.config.poll_interval ≤ interval) (under : IsUnderWay own b) (some : 1 ≤ length (waits under.device)) where
   abbrev all : ℕ
   all = (before + 1) * (interval + 2 * turns_of time late n)
 
@@ -428,7 +476,7 @@ module _ (late : ℕ) (time : ℕ → ℕ) (n own interval before : ℕ) (calls 
   ends_first k out = keeps.outstanding k out
 
   first_idle : holds under.device ≡ false → (t : Bool) → next under.device ≡ t
-      → (m : ℕ) × BeginsBy m own calls b
+      → (m : ℕ) × BeginsWhile 1 m own calls b
       × (m + after_begin (next under.device) (turns_of time late n) + before * (interval + 2 * turns_of time late n) ≤ b.greatest + (before + 1) * (interval + 2 * turns_of time late n))
   first_idle free true is = (
     (b.greatest + interval) + late + others_of time late n own,
@@ -438,7 +486,7 @@ module _ (late : ℕ) (time : ℕ → ℕ) (n own interval before : ℕ) (calls 
   )
   first_idle free false is = (
     b.greatest + late + others_of time late n own,
-    asks_by late time n own (b.greatest + all) interval calls b well keeps.in_time keeps.turns keeps.few settings under some free b.greatest (omega arith) ends_first none is,
+    asks_by late time n own (b.greatest + all) interval calls b well keeps.in_time keeps.turns keeps.few settings under some free b.greatest (omega arith) ends_first is,
     subst (λ (t : Bool). (b.greatest + late + others_of time late n own) + after_begin t (turns_of time late n) + before * (interval + 2 * turns_of time late n) ≤ b.greatest + all) (sym is)
         (first_order b.greatest (time own) late (others_of time late n own) interval (turns_of time late n) (before * (interval + 2 * turns_of time late n)) all whole product),
   )
@@ -453,8 +501,8 @@ module _ (late : ℕ) (time : ℕ → ℕ) (n own interval before : ℕ) (calls 
     idle = λ free. first_idle free (next under.device) refl;
   }
 
-pub go_out_between : (b : BusState) → Well b → OrdersGoOutBetween b
-go_out_between b well late time n entry before command calls accepted keeps none =
+pub leave_in_turns : (b : BusState) → Well b → OrdersLeaveInTurns b
+leave_in_turns b well late time n entry before command calls accepted keeps =
     let call = Submit entry command in
     let y = after_call (Submit entry command) b in
     let d = accepted.under_way.device in
@@ -464,16 +512,16 @@ go_out_between b well late time n entry before command calls accepted keeps none
     let k = goes entry d b at (Submit entry command) well.sound (λ begun. let is = begun.tick in cc) in
     let placed : waiting_orders entry y ≡ waits d ++ command ∷ [] =
     waiting_is entry k.device y k.there ∙ k.place ∙ ap (λ o. waits d ++ listed o) (takes entry command b accepted.accepted) in
-    subst (λ (m : ℕ). OrderGoesOutBy (m + (before + 1) * (b.config.poll_interval + 2 * turns_of time late n)) entry command before calls y) moment
-    (goes_by late time n entry (y.greatest + (before + 1) * (b.config.poll_interval + 2 * turns_of time late n)) b.config.poll_interval command before calls y
-    (well_call (Submit entry command) b well) keeps.in_time keeps.turns keeps.few (omega arith) (waits d) [] placed accepted.place none
+    subst (λ (m : ℕ). OrderLeavesBy (m + (before + 1) * (b.config.poll_interval + 2 * turns_of time late n)) entry command before calls y) moment
+    (leaves_by late time n entry (y.greatest + (before + 1) * (b.config.poll_interval + 2 * turns_of time late n)) b.config.poll_interval command before calls y
+    (well_call (Submit entry command) b well) keeps.in_time keeps.turns keeps.few (omega arith) (waits d) [] placed accepted.place
     (λ under.
     first_stage late time n entry b.config.poll_interval before calls y (well_call (Submit entry command) b well) keeps (omega arith) under
-    (some_wait (waits d) command [] (waits under.device) (sym (waiting_is entry under.device y under.there) ∙ placed)) none))
+    (some_wait (waits d) command [] (waits under.device) (sym (waiting_is entry under.device y under.there) ∙ placed))))
 
 -- whatever the line does
-pub between_in_time : (b : BusState) → Well b → OrdersBetweenInTime b
-between_in_time b well late n entry before command calls accepted in_time few none =
-    subst (λ (t : ℕ). OrderGoesOutBy (b.greatest + (before + 1) * (b.config.poll_interval + 2 * t)) entry command before calls (after_call (Submit entry command) b))
+pub leave_in_time : (b : BusState) → Well b → OrdersLeaveInTime b
+leave_in_time b well late n entry before command calls accepted in_time few =
+    subst (λ (t : ℕ). OrderLeavesBy (b.greatest + (before + 1) * (b.config.poll_interval + 2 * t)) entry command before calls (after_call (Submit entry command) b))
     (same_turns (exchange_of b late) late n)
-    (go_out_between b well late (λ k. exchange_of b late) n entry before command calls accepted (keeps_turns late n (Submit entry command) calls b well in_time few) none)
+    (leave_in_turns b well late (λ k. exchange_of b late) n entry before command calls accepted (keeps_turns late n (Submit entry command) calls b well in_time few))

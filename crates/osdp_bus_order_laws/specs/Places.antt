@@ -1,6 +1,6 @@
 -- Orders go out in the order in which they were accepted: none is lost, none goes twice, and none overtakes another.
 use Rattle.std.specs.Prelude.{◌≡◌, ℕ, ◌&&◌, ◌==◌, if◌then◌else◌, is_none, List, [], ◌∷◌, ◌++◌, Option, Some, None, option_to_list, Result, Ok, Err}
-use Rattle.std.specs.Option.{option_map_or}
+use Rattle.std.specs.Option.{option_map_or, option_or}
 use Rattle.osdp_msg.specs.declared.command.Command.{Command}
 use Rattle.osdp_bus.specs.declared.fault.BusFault.{BusFault}
 use Rattle.osdp_bus.specs.Buses.{BusState, device_of}
@@ -24,6 +24,10 @@ given (Ok command) = command
 abbrev pub taken_back_in : ℕ → Call → BusState → Option Command
 taken_back_in entry (Withdraw at) b = if at == entry then given (withdrawal_at at b) else None
 taken_back_in entry _ b = None
+
+-- the order of an entry that leaves those that wait in a call: its first packet goes out, or it is taken back
+abbrev pub leaves_in : ℕ → Call → BusState → Option Command
+leaves_in entry call b = option_or (goes_out entry call b) (taken_back_in entry call b)
 
 -- over a list of calls, each in its order: the accepted ones, and those that wait no more, since they go out or are taken back
 abbrev pub accepted : ℕ → List Call → BusState → List Command

@@ -4,7 +4,7 @@
 ghost use Rattle.osdp_bus_laws.specs.Calls.{Always};
 ghost use Rattle.osdp_bus_order_laws.specs.Places.{OrdersKeepTheirPlaces};
 ghost use Rattle.osdp_bus_order_laws.specs.Ended.{EndsAreTold};
-ghost use Rattle.osdp_bus_order_laws.specs.InTime.{OrdersBetweenInTime, OrdersGoOutBetween};
+ghost use Rattle.osdp_bus_order_laws.specs.InTime.{OrdersLeaveInTime, OrdersLeaveInTurns};
 ghost use Rattle.osdp_bus_order_laws.specs.Instances.{OrderIsReached};
 ghost use Rattle.osdp_bus_order_laws.specs.Pacing.{PollsGoExactly, PollsStandBetween};
 ghost use Rattle.osdp_bus_order_laws.specs.Rooms.{EntriesKeepTheirRoom};
@@ -26,12 +26,12 @@ pub fn orders_keep_their_places()
     ensures { Always OrdersKeepTheirPlaces }
 {}
 
-/// An order goes out within the interval between POLLs and two turns of each entry, for each order before it and for itself, or its session has ended by then, whether a POLL
-/// stands between any two orders or not. It is accepted while its session is under way, no order of its entry is taken back from then on, and what goes out is its first packet. A turn is an exchange and a late tick.
-/// Whatever the line does, an exchange is the longest that the settings allow.
+/// An order has left those that wait within the interval between POLLs and two turns of each entry, for each order before it and for itself, or its session has ended by then, whether
+/// a POLL stands between any two orders or not. It leaves as its first packet goes out, or as it is taken back; so do those before it. It is accepted while its session is under way. A turn is an
+/// exchange and a late tick. Whatever the line does, an exchange is the longest that the settings allow.
 pub fn orders_between_polls_go_out()
-    ensures turns { Always OrdersGoOutBetween }
-    ensures whatever { Always OrdersBetweenInTime }
+    ensures turns { Always OrdersLeaveInTurns }
+    ensures whatever { Always OrdersLeaveInTime }
 {}
 
 /// Where a POLL stands between any two orders, the bound of an order is reached. A line of two entries whose devices answer at the last moment, and whose program is on time,

@@ -146,35 +146,35 @@ ready_submitted from least command d ready =
     more_waits from least (length d.controller.waiting) (length (d.controller.waiting ++ command ∷ [])) d.controller.session
     (let both = length-append d.controller.waiting (command ∷ []) in omega arith) ready
 
--- no command of the entry has to wait, or none is taken back by the call
+-- where the call takes a command of the entry back, so many wait still
 abbrev pub Stays : ℕ → ℕ → Call → BusState → Type 0
-Stays least own call b = (least ≡ 0) ⊎ (call ≡ Withdraw own → withdrawal_at own b ≡ Ok None)
+Stays least own call b = (d : Entry) → device_of own b ≡ Some d → call ≡ Withdraw own → least ≤ length d.controller.waiting
+    → least ≤ length (entry_withdraws d).controller.waiting
 
--- .. nor by any of the calls
+-- no command of the entry has to wait, or none is taken back by any of the calls
 abbrev pub AllStay : ℕ → ℕ → List Call → BusState → Type 0
 AllStay least own calls b = (least ≡ 0) ⊎ TakesNoneBack own calls b
-
-pub stays_now : (least own : ℕ) (call : Call) (calls : List Call) (b : BusState) → AllStay least own (call ∷ calls) b → Stays least own call b
-stays_now least own call calls b (inl none) = inl none
-stays_now least own call calls b (inr all) = inr all.0
-
-pub stay_then : (least own : ℕ) (call : Call) (calls : List Call) (b : BusState) → AllStay least own (call ∷ calls) b → AllStay least own calls (after_call call b)
-stay_then least own call calls b (inl none) = inl none
-stay_then least own call calls b (inr all) = inr all.1
 
 kept_so : (o : Option Command) (ws : List Command) → (if is_some o then None else slice_get ws 0) ≡ None → (if is_some o then ws else drop 1 ws) ≡ ws
 kept_so (Some c) ws none = refl
 kept_so None [] none = refl
 kept_so None (w ∷ ws) none = absurd cc
 
+pub stays_now : (least own : ℕ) (call : Call) (calls : List Call) (b : BusState) → AllStay least own (call ∷ calls) b → Stays least own call b
+stays_now least own call calls b (inl none) = λ d there is some. omega (arith, none)
+stays_now least own call calls b (inr all) = λ d there is some.
+    let here : withdrawal_at own b ≡ Ok (withdrawn_of d) = ap (λ (o : Option Entry). withdrawal_of o) there in
+    let out : withdrawn_of d ≡ None = (let both : Ok (withdrawn_of d) ≡ Ok None = sym here ∙ all.0 is in cc) in
+    subst (λ (w : List Command). least ≤ length w) (sym (kept_so (on_its_way d.controller.session.state) d.controller.waiting out)) some
+
+pub stay_then : (least own : ℕ) (call : Call) (calls : List Call) (b : BusState) → AllStay least own (call ∷ calls) b → AllStay least own calls (after_call call b)
+stay_then least own call calls b (inl none) = inl none
+stay_then least own call calls b (inr all) = inr all.1
+
 pub still_waiting : (least own : ℕ) (call : Call) (b : BusState) → Stays least own call b → (at : ℕ) → call ≡ Withdraw at → own ≡ at → (d : Entry) → device_of at b ≡ Some d
     → least ≤ length d.controller.waiting → least ≤ length (entry_withdraws d).controller.waiting
-still_waiting least own call b (inl none) at is same d there some = omega (arith, none)
-still_waiting least own call b (inr none) at is same d there some =
-    let taken : withdrawal_at own b ≡ Ok None = none (is ∙ sym (ap (λ (n : ℕ). Withdraw n) same)) in
-    let here : withdrawal_at own b ≡ Ok (withdrawn_of d) = ap (λ (o : Option Entry). withdrawal_of o) (ap (λ (n : ℕ). device_of n b) same ∙ there) in
-    let out : withdrawn_of d ≡ None = (let both : Ok (withdrawn_of d) ≡ Ok None = sym here ∙ taken in cc) in
-    subst (λ (w : List Command). least ≤ length w) (sym (kept_so (on_its_way d.controller.session.state) d.controller.waiting out)) some
+still_waiting least own call b stay at is same d there some =
+    stay d (ap (λ (n : ℕ). device_of n b) same ∙ there) (is ∙ sym (ap (λ (n : ℕ). Withdraw n) same)) some
 
 ready_withdrawn : (from least own : ℕ) (call : Call) (b : BusState) → Stays least own call b → (at : ℕ) → call ≡ Withdraw at → own ≡ at → (d : Entry)
     → device_of at b ≡ Some d → Ready from least d → Ready from least (entry_withdraws d)
@@ -226,6 +226,26 @@ stays_ready from least own call b well place stay not = by_duty (ends_duty call 
     by_duty : (t : Bool) → ends_duty call b ≡ t → AtPlace own (Ready from least) (after_call call b).devices
     by_duty false other = stays_other from least own call b well place stay not other
     by_duty true ends = let tick = tick_of call b ends in stays_tick from least own call b well place stay not tick.0 tick.1 tick.2
+
+-- ---- an exchange that begins by a moment, as long as so many wait
+
+abbrev pub BeginsWhile : ℕ → ℕ → ℕ → List Call → BusState → Type 0
+BeginsWhile least limit own [] b = Unit {0}
+BeginsWhile least limit own (call ∷ calls) b =
+    ((after_call call b).greatest ≤ limit) × ((Begins call own b → ⊥) → Stays least own call b → BeginsWhile least limit own calls (after_call call b))
+
+pub begins_always : (least limit own : ℕ) (calls : List Call) (b : BusState) → AllStay least own calls b → BeginsWhile least limit own calls b → BeginsBy limit own calls b
+begins_always least limit own [] b stay begins = tt
+begins_always least limit own (call ∷ calls) b stay begins = (
+  begins.0,
+  λ not.
+      begins_always least limit own calls (after_call call b) (stay_then least own call calls b stay) (begins.1 not (stays_now least own call calls b stay)),
+)
+
+pub begins_then_while : (least limit own : ℕ) (calls : List Call) (b : BusState) → BeginsBy limit own calls b → BeginsWhile least limit own calls b
+begins_then_while least limit own [] b begins = tt
+begins_then_while least limit own (call ∷ calls) b begins =
+    (begins.0, λ not stay. begins_then_while least limit own calls (after_call call b) (begins.1 not))
 
 -- ---- an exchange that ends by a moment ends by a later one
 
@@ -405,14 +425,13 @@ module _ (late : ℕ) (time : ℕ → ℕ) (n own from least : ℕ) where
     stage_decided turns few_then not (inl (k, begun)) = stage_begun k not begun (turns k begun) few_then
     stage_decided turns few_then not (inr none) = stage_still none
 
-  pub begins_by : (calls : List Call) (b : BusState) → Well b → KeepsTime late calls b → TurnsTake time calls b → HasFew n calls b
-      → AllStay least own calls b → AtPlace own (Ready from least) b.devices → Stage calls b → BeginsBy last own calls b
-  begins_by [] b well in_time turns few stay place stage = tt
-  begins_by (call ∷ calls) b well in_time turns few stay place stage = (
+  begins_while : (calls : List Call) (b : BusState) → Well b → KeepsTime late calls b → TurnsTake time calls b → HasFew n calls b
+      → AtPlace own (Ready from least) b.devices → Stage calls b → BeginsWhile least last own calls b
+  begins_while [] b well in_time turns few place stage = tt
+  begins_while (call ∷ calls) b well in_time turns few place stage = (
     near_turn call calls b well in_time.0 few place stage,
-    λ not.
-        begins_by calls (after_call call b) (well_call call b well) in_time.1 turns.1 few.1 (stay_then least own call calls b stay)
-        (stays_ready from least own call b well place (stays_now least own call calls b stay) not)
+    λ not stay.
+        begins_while calls (after_call call b) (well_call call b well) in_time.1 turns.1 few.1 (stays_ready from least own call b well place stay not)
         (stage_decided call calls b well in_time.0 few place stage turns.0 few.1 not (decide call b)),
   )
 
@@ -449,7 +468,12 @@ module _ (late : ℕ) (time : ℕ → ℕ) (n own from least : ℕ) where
         free = λ free. absurd (nobody b free m out.device out.there out.outstanding);
       }
 
+  pub has_its_turn_while : (calls : List Call) (b : BusState) → Well b → KeepsTime late calls b → TurnsTake time calls b → HasFew n calls b → b.greatest ≤ from
+      → AtPlace own (Ready from least) b.devices → ((k : ℕ) → IsOutstandingAt k b → EndsBy (from + time k) calls b) → BeginsWhile least last own calls b
+  has_its_turn_while calls b well in_time turns few before place ends =
+      begins_while calls b well in_time turns few place (stage_from calls b well few before place ends (holder b) refl)
+
   pub has_its_turn : (calls : List Call) (b : BusState) → Well b → KeepsTime late calls b → TurnsTake time calls b → HasFew n calls b → AllStay least own calls b → b.greatest ≤ from
       → AtPlace own (Ready from least) b.devices → ((k : ℕ) → IsOutstandingAt k b → EndsBy (from + time k) calls b) → BeginsBy last own calls b
   has_its_turn calls b well in_time turns few stay before place ends =
-      begins_by calls b well in_time turns few stay place (stage_from calls b well few before place ends (holder b) refl)
+      begins_always least last own calls b stay (has_its_turn_while calls b well in_time turns few before place ends)

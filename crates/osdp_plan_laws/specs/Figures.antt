@@ -5,8 +5,8 @@ use Rattle.osdp_msg.specs.declared.event.Event.{Event}
 use Rattle.osdp_bus.specs.Buses.{BusState}
 use Rattle.osdp_bus.specs.Settings.{controller_config}
 use Rattle.osdp_bus_laws.specs.Calls.{Call, Submit, after_call}
-use Rattle.osdp_bus_order_laws.specs.InTime.{OrderGoesOutBy}
-use Rattle.osdp_bus_time_laws.specs.Laws.{GoesOutBy, IsAccepted, IsUnderWay, TakesNoneBack, time_of}
+use Rattle.osdp_bus_order_laws.specs.InTime.{OrderLeavesBy}
+use Rattle.osdp_bus_time_laws.specs.Laws.{GoesOutBy, IsAccepted, IsUnderWay, time_of}
 use Rattle.osdp_bus_time_laws.specs.Reading.{NothingIsRead}
 use Rattle.osdp_bus_time_laws.specs.Telling.{IsIdle, ToldBy}
 use Rattle.osdp_bus_time_laws.specs.Turns.{KeepsTurns, others_of}
@@ -29,12 +29,11 @@ pub record IsAsPlanned (p : Plan) (b : BusState) : Type 0 where
   pub plan : IsPlan p
   pub config : controller_config 0 b.config ≡ config_of p
 
--- an order: as many as were planned wait before it, and none of its reader is taken back
+-- an order: as many as were planned wait before it. It goes out, or is taken back
 abbrev pub OrdersKeepToFigures : Plan → BusState → Type 0
 OrdersKeepToFigures p b = (others : Others) (entry : ℕ) (command : Command) (calls : List Call) → IsAsPlanned p b
     → IsAccepted entry p.orders command b → KeepsTurns p.late (planned_time others p) p.readers calls (after_call (Submit entry command) b)
-    → TakesNoneBack entry calls (after_call (Submit entry command) b)
-    → OrderGoesOutBy (b.greatest + order_wait others p) entry command p.orders calls (after_call (Submit entry command) b)
+    → OrderLeavesBy (b.greatest + order_wait others p) entry command p.orders calls (after_call (Submit entry command) b)
 
 -- a reader is asked again, by a POLL where no order waits: the next frame of its exchanges goes out within a round of POLLs, or its session has ended
 abbrev pub RoundsKeepToFigures : Plan → BusState → Type 0

@@ -10,9 +10,9 @@ ghost use Rattle.osdp_bus.specs.Buses.{BusState};
 ghost use Rattle.osdp_plan_laws.specs.Hostile.{HostileTurnsHold};
 ghost use Rattle.osdp_plan_laws.specs.Instances.{CardComesBeforeAnother, OrderFigureIsReached, SilenceFigureIsReached};
 
-/// Where turns take no longer than planned, an order accepted in a session goes out within its plan's figure, or the session has ended by then. As many orders wait before it as
+/// Where turns take no longer than planned, an order accepted in a session goes out or is taken back within its plan's figure, or the session has ended by then. As many orders wait before it as
 /// planned. It is planned that all readers answer in time, that the first is silent, or that each takes as long as its settings allow. The figure is reached by a line of two
-/// readers, of a plan that `osdp plan` refuses, since its wait is just as long as an answer takes. While the order hasn't gone out and the session goes on, the clock doesn't pass
+/// readers, of a plan that `osdp plan` refuses, since its wait is just as long as an answer takes. While the order waits and the session goes on, the clock doesn't pass
 /// its moment.
 pub fn orders_keep_to_figures()
     ensures orders { (p : Plan) → Always (OrdersKeepToFigures p) }
