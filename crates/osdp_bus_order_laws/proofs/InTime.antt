@@ -351,8 +351,8 @@ module _ (late : ℕ) (time : ℕ → ℕ) (n own limit interval : ℕ) where
     -- the order waits on, so where one is taken back the entry has one more
     one_more : (call : Call) (b : BusState) (sooner more : List Command) → Waits own sooner command more (after_call call b) → Stays 1 own call b
     one_more call b sooner more waiting = λ d there is some.
-        let then = ap (λ (c : Call). device_of own (after_call c b)) is ∙ changed_here own entry_withdraws d b there in
-        waits_then sooner more (after_call call b) (entry_withdraws d) waiting then
+        let taken = ap (λ (c : Call). device_of own (after_call c b)) is ∙ changed_here own entry_withdraws d b there in
+        waits_then sooner more (after_call call b) (entry_withdraws d) waiting taken
 
     -- no order goes out, and the order waits on
     none_stages : (before : ℕ) (call : Call) (calls : List Call) (b : BusState) → Well b → KeepsTime late (call ∷ calls) b → TurnsTake time (call ∷ calls) b

@@ -13,3 +13,4 @@ pub mod Once
 pub mod OneLine
 pub mod OneReport
 mod ByRows
+mod Lists

@@ -9,6 +9,7 @@ pub mod Saying
 pub mod Times
 pub mod Seen
 pub mod Tests
+pub mod Lists
 pub mod Judging
 pub mod Ending
 pub mod Running

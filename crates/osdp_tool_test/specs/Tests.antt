@@ -1,9 +1,9 @@
 -- A test of a device: what each line adds to it.
 use Rattle.std.specs.Prelude.{ℕ, ◌==◌, Bool, true, false, if◌then◌else◌, List, [], ◌∷◌, ◌++◌, map, option_map, Option, Some, None}
 use Rattle.osdp_frame.specs.Packet.{Packet}
-use Rattle.osdp_rules.specs.Claims.{claims_after, no_claims}
+use Rattle.osdp_rules.specs.Claims.{no_claims}
 use Rattle.osdp_rules.specs.Delays.{delays_finding}
-use Rattle.osdp_rules.specs.Known.{known_after}
+use Rattle.osdp_rules.specs.Runs.{claims_next, known_next}
 use Rattle.osdp_rules.specs.Showing.{shown}
 use Rattle.osdp_rules.specs.declared.claims.Claims.{Claims}
 use Rattle.osdp_rules.specs.declared.finding.Finding.{Finding}
@@ -82,14 +82,6 @@ found_in rule s t = shown rule.aspect t.address t.known t.claims s.packet s.answ
 abbrev pub judged_entry : Bool → Exchange → Rule → Seen → DeviceTest → Told → Told
 judged_entry true x rule s t e = after_shown (by_ground rule.ground (found_in rule s t)) (fault_text t.form rule.aspect x) e
 judged_entry false x rule s t e = e
-
-abbrev pub known_next : ℕ → Option Packet → Option Packet → Known → Known
-known_next address None answer known = known
-known_next address (Some p) answer known = known_after address p answer known
-
-abbrev pub claims_next : ℕ → Known → Option Packet → Option Packet → Claims → Claims
-claims_next address known None answer claims = claims
-claims_next address known (Some p) answer claims = claims_after address known p answer claims
 
 -- what is known of the device, and what it says by CAP
 abbrev pub with_known : Option Packet → Option Packet → DeviceTest → DeviceTest
