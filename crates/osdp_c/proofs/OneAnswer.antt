@@ -91,25 +91,25 @@ sent_unless : (held : Bool) (now until : ℕ) (p : PanelState)
 sent_unless true now until p is = absurd cc
 sent_unless false now until p is = sent_of (bus_ticks now p.bus).sent (record (brings (bus_ticks now p.bus).bus p) { brought = false }) until is
 
-module _ (now then : ℕ) (m : PanelMachine) (sends : ℕ) (out : BurstStruct) where
+module _ (now later : ℕ) (m : PanelMachine) (sends : ℕ) (out : BurstStruct) where
   abbrev moment : ℕ
-  moment = max (ticked now m).panel.bus.greatest then
+  moment = max (ticked now m).panel.bus.greatest later
 
   abbrev given : Bool → BurstStruct
   given late = burst_of (if late then [] else (ticked now m).turn) out
 
   in_time : (packet : Packet) (until : ℕ) → sent_at now m.panel ≡ Some packet → (ticked now m).panel.last ≡ Some until → moment ≤ until
-      → writes_burst then (ticked now m) out ≡ burst_of (spelling packet) out
+      → writes_burst later (ticked now m) out ≡ burst_of (spelling packet) out
   in_time packet until sent last before =
       ap (λ l. burst_of (written_by l moment (ticked now m).turn) out) last
       ∙ ap given (ltb-false until moment before)
       ∙ ap (λ s. burst_of (turn_with s m.turn) out) sent
 
-  too_late : (until : ℕ) → (ticked now m).panel.last ≡ Some until → until < moment → writes_burst then (ticked now m) out ≡ burst_of [] out
+  too_late : (until : ℕ) → (ticked now m).panel.last ≡ Some until → until < moment → writes_burst later (ticked now m) out ≡ burst_of [] out
   too_late until last after =
       ap (λ l. burst_of (written_by l moment (ticked now m).turn) out) last ∙ ap given (ltb-true until moment after)
 
-  by_last : (last : Option ℕ) → (ticked now m).panel.last ≡ last → GivesOneBurst now then m sends out
+  by_last : (last : Option ℕ) → (ticked now m).panel.last ≡ last → GivesOneBurst now later m sends out
   by_last None is = record {
     none = λ zero. ap (λ l. burst_of (written_by l moment (ticked now m).turn) out) is;
     one = λ told. absurd (let e : 0 ≡ 1 = sym (ap (λ l. flag (is_some l)) is) ∙ told in omega (arith, e));
@@ -124,7 +124,7 @@ module _ (now then : ℕ) (m : PanelMachine) (sends : ℕ) (out : BurstStruct) w
       }
 
 pub one_burst : OneBurstGoesOut
-one_burst now then m sends out = by_last now then m sends out (ticked now m).panel.last refl
+one_burst now later m sends out = by_last now later m sends out (ticked now m).panel.last refl
 
 -- ---- deadlines
 

@@ -52,15 +52,15 @@ RepliesTellOneEvent = (read : Result Reply MsgFault) → IsOne (IsEventRead read
 
 -- What a tick and the write after it give of this machine, whatever stood in the structs. Where the tick tells of a burst, it sends a packet, which has a last moment: up to that
 -- moment the write gives its bytes, whole, and after it none. Where it tells of none, the write gives none.
-pub record GivesOneBurst (now then : ℕ) (m : PanelMachine) (sends : ℕ) (out : BurstStruct) : Type 0 where
-  pub none : writes_sends now m sends ≡ 0 → writes_burst then (ticked now m) out ≡ burst_of [] out
+pub record GivesOneBurst (now later : ℕ) (m : PanelMachine) (sends : ℕ) (out : BurstStruct) : Type 0 where
+  pub none : writes_sends now m sends ≡ 0 → writes_burst later (ticked now m) out ≡ burst_of [] out
   pub one : writes_sends now m sends ≡ 1 → (packet : Packet) × (until : ℕ) × (sent_at now m.panel ≡ Some packet) × ((ticked now m).panel.last ≡ Some until)
-      × (max (ticked now m).panel.bus.greatest then ≤ until → writes_burst then (ticked now m) out ≡ burst_of (spelling packet) out)
-      × (until < max (ticked now m).panel.bus.greatest then → writes_burst then (ticked now m) out ≡ burst_of [] out)
+      × (max (ticked now m).panel.bus.greatest later ≤ until → writes_burst later (ticked now m) out ≡ burst_of (spelling packet) out)
+      × (until < max (ticked now m).panel.bus.greatest later → writes_burst later (ticked now m) out ≡ burst_of [] out)
   pub either : (writes_sends now m sends ≡ 0) ⊎ (writes_sends now m sends ≡ 1)
 
 abbrev pub OneBurstGoesOut : Type 0
-OneBurstGoesOut = (now then : ℕ) (m : PanelMachine) (sends : ℕ) (out : BurstStruct) → GivesOneBurst now then m sends out
+OneBurstGoesOut = (now later : ℕ) (m : PanelMachine) (sends : ℕ) (out : BurstStruct) → GivesOneBurst now later m sends out
 
 -- ---- moments
 
