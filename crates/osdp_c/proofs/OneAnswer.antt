@@ -1,6 +1,6 @@
 -- What is written, read and sent is one thing.
 use Rattle.osdp_c.proofs.Common.{◌≡◌, ◌∙◌, ℕ, Bool, true, false, List, [], Option, Some, None, Result, Ok, Err, refl, sym, ap, subst, arith, inl, inr, CommandsAreReadOnce, CommandsHaveOneAnswer, DeadlinesAreTold, EventsAreReadOnce, GivesOneBurst, OneBurstGoesOut, RepliesHaveOneAnswer, RepliesTellOneEvent, moment_in, Status, Done, TooSmall, number, MsgFault}
-use Rattle.std.proofs.lemmas.Bool.{ltb-false, ltb-true}
+use Rattle.std.proofs.lemmas.Bool.{le-ltb, lt-ltb}
 use Rattle.std.specs.Prelude.{◌≤◌, ◌<◌, if◌then◌else◌, is_some, max}
 use Rattle.osdp_c_values.specs.declared.machine.PanelMachine.{PanelMachine}
 use Rattle.osdp_c_values.specs.Panels.{ticked, turn_with, writes_burst}
@@ -92,26 +92,26 @@ sent_unless true now until p is = absurd cc
 sent_unless false now until p is = sent_of (bus_ticks now p.bus).sent (record (brings (bus_ticks now p.bus).bus p) { brought = false }) until is
 
 module _ (now later : ℕ) (m : PanelMachine) (sends : ℕ) (out : BurstStruct) where
-  abbrev moment : ℕ
-  moment = max (ticked now m).panel.bus.greatest later
+  abbrev at : ℕ
+  at = max (ticked now m).panel.bus.greatest later
 
   abbrev given : Bool → BurstStruct
   given late = burst_of (if late then [] else (ticked now m).turn) out
 
-  in_time : (packet : Packet) (until : ℕ) → sent_at now m.panel ≡ Some packet → (ticked now m).panel.last ≡ Some until → moment ≤ until
+  in_time : (packet : Packet) (until : ℕ) → sent_at now m.panel ≡ Some packet → (ticked now m).panel.last ≡ Some until → at ≤ until
       → writes_burst later (ticked now m) out ≡ burst_of (spelling packet) out
   in_time packet until sent last before =
-      ap (λ l. burst_of (written_by l moment (ticked now m).turn) out) last
-      ∙ ap given (ltb-false until moment before)
+      ap (λ l. burst_of (written_by l at (ticked now m).turn) out) last
+      ∙ ap given (le-ltb until at before)
       ∙ ap (λ s. burst_of (turn_with s m.turn) out) sent
 
-  too_late : (until : ℕ) → (ticked now m).panel.last ≡ Some until → until < moment → writes_burst later (ticked now m) out ≡ burst_of [] out
+  too_late : (until : ℕ) → (ticked now m).panel.last ≡ Some until → until < at → writes_burst later (ticked now m) out ≡ burst_of [] out
   too_late until last after =
-      ap (λ l. burst_of (written_by l moment (ticked now m).turn) out) last ∙ ap given (ltb-true until moment after)
+      ap (λ l. burst_of (written_by l at (ticked now m).turn) out) last ∙ ap given (lt-ltb until at after)
 
   by_last : (last : Option ℕ) → (ticked now m).panel.last ≡ last → GivesOneBurst now later m sends out
   by_last None is = record {
-    none = λ zero. ap (λ l. burst_of (written_by l moment (ticked now m).turn) out) is;
+    none = λ zero. ap (λ l. burst_of (written_by l at (ticked now m).turn) out) is;
     one = λ told. absurd (let e : 0 ≡ 1 = sym (ap (λ l. flag (is_some l)) is) ∙ told in omega (arith, e));
     either = inl (ap (λ l. flag (is_some l)) is);
   }
