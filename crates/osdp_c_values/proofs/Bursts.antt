@@ -1,5 +1,5 @@
 -- What a tick leaves in the turn.
-use Rattle.osdp_c_values.proofs.Common.{◌≡◌, ℕ, List, refl}
+use Rattle.osdp_c_values.proofs.Common.{◌≡◌, ℕ, List}
 use Rattle.std.specs.Prelude.{IfSome, Option, Some, None}
 use Rattle.osdp_controller.specs.Lent.{IsWritten}
 use Rattle.osdp_frame.proofs.Spelled.{spelled_is}
