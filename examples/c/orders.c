@@ -56,7 +56,7 @@ void order_ended(size_t entry, uint64_t number)
     }
 }
 
-uint64_t first_waiting(struct osdp_panel *panel, size_t entry)
+uint64_t first_waiting(struct osdp_panel *panel, osdp_size entry)
 {
     uint64_t next = 0;
     osdp_size waiting = 0;

@@ -9,7 +9,7 @@
 void order(struct osdp_panel *panel, uint32_t rate, const char *line, uint64_t now);
 
 /* The number of the order of a reader that has waited longest; where none waits, that of its next one. */
-uint64_t first_waiting(struct osdp_panel *panel, size_t entry);
+uint64_t first_waiting(struct osdp_panel *panel, osdp_size entry);
 
 /* The order of a reader with this number has its end. */
 void order_ended(size_t entry, uint64_t number);
