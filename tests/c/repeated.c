@@ -190,9 +190,13 @@ void demand_rate(int port, uint32_t rate)
     (void)set_rate(port, rate);
 }
 
-bool was_stopped(void)
+void hear_all(void)
 {
-    return false;
+}
+
+uint32_t late_by(void)
+{
+    return 5000;
 }
 
 void set_late(uint32_t milliseconds)
