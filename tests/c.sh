@@ -80,7 +80,7 @@ build hands tests/c/hands.c "${checked[@]}" && passes "$work/hands"
 build texts tests/c/texts.c c/osdp_texts.c && passes "$work/texts"
 build structs tests/c/structs.c c/heap_malloc.c "$archive" && passes "$work/structs"
 build structs_checked tests/c/structs.c c/heap_malloc.c "$archive" "${checked[@]}" && passes "$work/structs_checked"
-for name in ages between limits messages moments nulls; do
+for name in ages between limits messages moments nulls orders; do
   build "$name" "tests/c/$name.c" c/heap_malloc.c "$archive" "${checked[@]}" && passes "$work/$name"
 done
 
