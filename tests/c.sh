@@ -91,7 +91,7 @@ build site tests/c/site.c c/heap_malloc.c c/osdp_site.c "$archive" "${checked[@]
 
 for heap in malloc pool; do
   build "session_$heap" "${session[@]}" "c/heap_$heap.c" "${counted[@]}" "$archive" && passes "$work/session_$heap"
-  [ "$heap" = pool ] && wanted="0 blocks" || wanted="30 blocks"
+  [ "$heap" = pool ] && wanted="0 blocks" || wanted="34 blocks"
   grep -q "^session: $wanted, each refused once$" "$work/said" || fail "session_$heap: not $wanted"
 done
 build session_checked "${session[@]}" c/heap_malloc.c "${counted[@]}" "$archive" "${checked[@]}" && passes "$work/session_checked"
