@@ -26,7 +26,7 @@
  *             a reason has the meaning that stands at `osdp_status`.
  * Writing.    A struct is written whole, except for its arrays: of an array as many bytes are written as its length says, and the
  *             others stay as they were. Nothing beyond a struct is written. No struct that a call reads or writes has padding.
- * Heap.       `osdp_panel_new` takes 7,608 bytes in four blocks. `osdp_panel_add` takes 3,067 bytes, and 1,443 for each command that may
+ * Heap.       `osdp_panel_new` takes 7,592 bytes in four blocks. `osdp_panel_add` takes 3,067 bytes, and 1,443 for each command that may
  *             wait, in five blocks. `osdp_device_new` takes 11,000 bytes, the capabilities, and 1,443
  *             for each event that may wait, in five blocks, or in four without capabilities. Where a room in bytes is given, 10 bytes
  *             for each command and the room stand in place of a panel's 1,443, and the 3,067 are the most. For a device 10 bytes for each
