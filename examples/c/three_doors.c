@@ -131,11 +131,9 @@ int main(int count, char **words)
         uint64_t now, wait = osdp_site_wait(&site, &panel, moment(), 100);
         size_t length = read_port(port, &lines, wait, bytes, sizeof bytes, &now);
         watch(now);
-        if (!osdp_site_turn(&site, &panel, bytes, length, now, take_report, NULL)) {
-            continue;
-        }
+        bool sends = osdp_site_turn(&site, &panel, bytes, length, now, take_report, NULL);
         now = moment(); /* what was done since the wait may have taken long */
-        if (osdp_panel_write(&panel, now, &burst) == OSDP_OK) {
+        if (sends && osdp_panel_write(&panel, now, &burst) == OSDP_OK) {
             (void)write_all(port, &burst, now);
         }
     }
