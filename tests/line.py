@@ -100,7 +100,7 @@ class Account:
             elif name == "taken":
                 self.issued.remove(text)
                 self.closed += 1
-            elif name == "withdrawn":
+            elif name in ("withdrawn", "expired"):  # neither goes out
                 self.withdrawn.append(text)
             elif name == "opened":
                 self.sessions.append([])
@@ -110,7 +110,8 @@ class Account:
                 self.sessions[-1].append(text)
             elif name == "lost":
                 self.lost += 1
-                self.unsettled += [" ".join(words[1:])] if words[1:] else []
+                unsettled = words[2:] if words[1:2] == ["withheld"] else words[1:]
+                self.unsettled += [" ".join(unsettled)] if unsettled else []
             else:
                 faults.append(f"reader {number}: the panel says {line}")
         self.taken = [line[6:] for line in reader if line.startswith("taken OUT")]

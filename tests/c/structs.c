@@ -7,10 +7,11 @@
 
 #include "demands.h"
 #include "osdp.h"
+#include "panels.h"
 
 _Static_assert(sizeof(struct osdp_message) == 1436 && sizeof(struct osdp_burst) == 1444, "messages and bursts");
 _Static_assert(sizeof(struct osdp_panel) == 16 && sizeof(struct osdp_panel_config) == 40, "panels");
-_Static_assert(sizeof(struct osdp_moment) == 16 && sizeof(struct osdp_report) == 2888, "reports");
+_Static_assert(sizeof(struct osdp_moment) == 16 && sizeof(struct osdp_report) == 2912, "reports");
 _Static_assert(sizeof(struct osdp_device) == 16 && sizeof(struct osdp_device_config) == 28, "readers");
 _Static_assert(sizeof(struct osdp_answer) == 2900, "answers");
 _Static_assert(sizeof(struct osdp_raw) == 1434 && sizeof(struct osdp_keypad) == 257 && sizeof(struct osdp_states) == 1434, "fields");
@@ -113,15 +114,17 @@ static void no_machines(struct osdp_panel *panel, struct osdp_device *reader)
     const uint8_t bytes[] = { 0 };
     void *first = filled(&first_place, MOST), *second = filled(&second_place, MOST);
     demand(osdp_panel_free(panel) == OSDP_NO_MACHINE);
-    demand(osdp_panel_add(panel, 5, first) == OSDP_NO_MACHINE);
+    demand(osdp_panel_add(panel, 5, 0, first) == OSDP_NO_MACHINE);
+    demand(osdp_panel_next_number(panel, 0, first) == OSDP_NO_MACHINE);
     demand(osdp_panel_begin(panel, 0, 0) == OSDP_NO_MACHINE);
-    demand(osdp_panel_submit(panel, 0, 0x64, bytes, 0) == OSDP_NO_MACHINE);
-    demand(osdp_panel_submit_text(panel, 0, "LSTAT", 5) == OSDP_NO_MACHINE);
+    demand(osdp_panel_submit(panel, 0, 0x64, bytes, 0, 0, first) == OSDP_NO_MACHINE);
+    demand(osdp_panel_submit_text(panel, 0, "LSTAT", 5, 0, first) == OSDP_NO_MACHINE);
     demand(osdp_panel_withdraw(panel, 0, first) == OSDP_NO_MACHINE);
     demand(osdp_panel_retarget(panel, 0, 5) == OSDP_NO_MACHINE);
     demand(osdp_panel_bytes(panel, bytes, 1, 0) == OSDP_NO_MACHINE);
     demand(osdp_panel_silence(panel, 0) == OSDP_NO_MACHINE);
     demand(osdp_panel_tick(panel, 0, first) == OSDP_NO_MACHINE);
+    demand(osdp_panel_write(panel, 0, first) == OSDP_NO_MACHINE);
     demand(osdp_panel_next_deadline(panel, first) == OSDP_NO_MACHINE);
     demand(osdp_panel_next_report(panel, first) == OSDP_NO_MACHINE);
     demand(osdp_panel_entries(panel, first) == OSDP_NO_MACHINE);
@@ -161,11 +164,11 @@ static void new_machines(struct osdp_panel *panel, struct osdp_device *reader)
     demand(osdp_panel_new(panel, &config) == OSDP_OK && !is_zero(panel, sizeof *panel));
     demand(memcmp(&config, &config_before, sizeof config) == 0);
     size_t *entry = filled(&first_place, sizeof *entry);
-    demand(osdp_panel_add(panel, 127, entry) == OSDP_PANEL_OUT_OF_RANGE);
+    demand(osdp_panel_add(panel, 127, 0, entry) == OSDP_PANEL_OUT_OF_RANGE);
     demand_untouched(&first_place);
-    demand(osdp_panel_add(panel, 5, entry) == OSDP_OK && *entry == 0);
+    demand(osdp_panel_add(panel, 5, 70, entry) == OSDP_OK && *entry == 0);
     demand_around(&first_place);
-    demand(osdp_panel_add(panel, 6, entry) == OSDP_OK && *entry == 1);
+    demand(osdp_panel_add(panel, 6, 0, entry) == OSDP_OK && *entry == 1);
 
     const uint8_t capabilities[] = { 1, 2, 3 };
     demand(osdp_device_new(reader, &what, capabilities, 3) == OSDP_OK && !is_zero(reader, sizeof *reader));
@@ -174,12 +177,35 @@ static void new_machines(struct osdp_panel *panel, struct osdp_device *reader)
     demand_around(&reader_place);
 }
 
+/* The numbers of orders: the first device's begin with the one that it was added with. What is refused writes none. */
+static void numbers(struct osdp_panel *panel)
+{
+    const uint8_t out[] = { 1, 2, 3, 4 };
+    uint64_t *number = filled(&first_place, sizeof *number);
+    demand(osdp_panel_next_number(panel, 2, number) == OSDP_NO_ENTRY);
+    demand(osdp_panel_submit(panel, 0, 0x68, out, 3, OSDP_NEVER, number) == OSDP_BAD_LENGTH && osdp_panel_submit(panel, 2, 0x68, out, 4, OSDP_NEVER, number) == OSDP_NO_ENTRY);
+    demand(osdp_panel_submit_text(panel, 0, "OUT", 3, OSDP_NEVER, number) == OSDP_BAD_TEXT && osdp_panel_submit_text(panel, 0, "POLL", 4, OSDP_NEVER, number) == OSDP_POLL_SUBMITTED);
+    demand_untouched(&first_place);
+    demand(osdp_panel_submit(panel, 0, 0x68, out, 4, OSDP_NEVER, number) == OSDP_OK && *number == 70);
+    demand_around(&first_place);
+    number = filled(&first_place, sizeof *number);
+    demand(osdp_panel_submit_text(panel, 0, "LSTAT", 5, OSDP_NEVER, number) == OSDP_OK && *number == 71);
+    demand_around(&first_place);
+    number = filled(&first_place, sizeof *number);
+    demand(osdp_panel_next_number(panel, 0, number) == OSDP_OK && *number == 72);
+    demand_around(&first_place);
+    demand(osdp_panel_next_number(panel, 1, number) == OSDP_OK && *number == 0);
+    demand(osdp_panel_withdraw(panel, 0, filled(&second_place, sizeof(struct osdp_message))) == OSDP_OK);
+    demand(osdp_panel_withdraw(panel, 0, filled(&second_place, sizeof(struct osdp_message))) == OSDP_OK);
+    demand(osdp_panel_next_number(panel, 0, number) == OSDP_OK && *number == 72); /* what is taken back has had its number */
+}
+
 /* What waits, and how much. */
 static void waiting(struct osdp_panel *panel, struct osdp_device *reader)
 {
     const uint8_t out[] = { 1, 2, 3, 4 }, keys[] = { 0, 1, '7' };
     struct osdp_message *command = filled(&first_place, sizeof *command);
-    demand(osdp_panel_submit(panel, 1, 0x68, out, 4) == OSDP_OK);
+    demand(gives_data(panel, 1, 0x68, out, 4) == OSDP_OK);
     demand(osdp_panel_withdraw(panel, 2, command) == OSDP_NO_ENTRY);
     demand_untouched(&first_place);
     demand(osdp_panel_withdraw(panel, 1, command) == OSDP_OK && is_message(command, 0x68, out, 4));
@@ -198,7 +224,7 @@ static void waiting(struct osdp_panel *panel, struct osdp_device *reader)
 static void known(struct osdp_panel *panel, struct osdp_device *reader)
 {
     const uint8_t out[] = { 1, 2, 3, 4 };
-    demand(osdp_panel_submit(panel, 1, 0x68, out, 4) == OSDP_OK);
+    demand(gives_data(panel, 1, 0x68, out, 4) == OSDP_OK);
     size_t *count = filled(&first_place, sizeof *count);
     demand(osdp_panel_entries(panel, count) == OSDP_OK && *count == 2);
     demand_around(&first_place);
@@ -306,12 +332,32 @@ static struct osdp_report *report_of(struct osdp_panel *panel)
     return report;
 }
 
-static struct osdp_burst *burst_of(struct osdp_panel *panel, uint64_t now)
+/* Whether a tick has a burst go out. */
+static bool sends(struct osdp_panel *panel, uint64_t now)
+{
+    uint32_t *told = filled(&first_place, sizeof *told);
+    demand(osdp_panel_tick(panel, now, told) == OSDP_OK && *told <= 1);
+    demand_around(&first_place);
+    return *told == 1;
+}
+
+static struct osdp_burst *written(struct osdp_panel *panel, uint64_t now)
 {
     struct osdp_burst *burst = filled(&first_place, sizeof *burst);
-    demand(osdp_panel_tick(panel, now, burst) == OSDP_OK);
+    demand(osdp_panel_write(panel, now, burst) == OSDP_OK);
     demand_around(&first_place);
     return burst;
+}
+
+/* The burst of a tick, which is written a millisecond later, and then no more. */
+static struct osdp_burst *burst_of(struct osdp_panel *panel, uint64_t now)
+{
+    static struct osdp_burst burst;
+    demand(sends(panel, now));
+    burst = *written(panel, now + 1);
+    const struct osdp_burst *again = written(panel, now + 1);
+    demand(again->length == 0 && is_pattern(again->bytes, sizeof again->bytes));
+    return &burst;
 }
 
 /* The reader hears a packet of the panel, and says what is told in the answer. */
@@ -354,13 +400,34 @@ static void silences(struct osdp_device *reader)
     demand_around(&first_place);
 }
 
-/* The reader's answer comes to the panel, which then tells no moment: a report waits. */
+/* The reader's answer comes to the panel, whose next turn is due at once: a report waits. */
 static void to_panel(struct osdp_panel *panel, const struct osdp_burst *burst, uint64_t now)
 {
     struct osdp_burst heard = *burst;
     demand(osdp_panel_bytes(panel, heard.bytes, heard.length, now) == OSDP_OK);
     struct osdp_moment *due = deadline(panel);
-    demand(due->present == 0 && due->moment == 0);
+    demand(due->present == 1 && due->moment == now);
+}
+
+/* A turn whose bytes brought a report sends nothing. */
+static void rests(struct osdp_panel *panel, uint64_t now)
+{
+    struct osdp_moment *due = deadline(panel);
+    demand(due->present == 1 && due->moment == now);
+    demand(!sends(panel, now));
+    const struct osdp_burst *none = written(panel, now);
+    demand(none->length == 0 && is_pattern(none->bytes, sizeof none->bytes));
+}
+
+/* A report about no order. */
+static bool has_no_order(const struct osdp_report *report, uint64_t since)
+{
+    return report->numbered == 0 && report->number == 0 && report->since == since && report->too_late == 0;
+}
+
+static bool has_order(const struct osdp_report *report, uint64_t number)
+{
+    return report->numbered == 1 && report->number == number && report->since == 0 && report->too_late == 0;
 }
 
 static void opening(struct osdp_panel *panel, struct osdp_device *reader)
@@ -371,7 +438,8 @@ static void opening(struct osdp_panel *panel, struct osdp_device *reader)
     demand(osdp_panel_begin(panel, 0, 1000) == OSDP_OK);
     due = deadline(panel);
     demand(due->present == 1 && due->moment == 1400);
-    struct osdp_burst *burst = burst_of(panel, 1399);
+    demand(!sends(panel, 1399));
+    const struct osdp_burst *burst = written(panel, 1399);
     demand(burst->length == 0 && is_pattern(burst->bytes, sizeof burst->bytes));
     burst = burst_of(panel, 1400);
     demand(is_burst(burst, 5, 0, 0x61, asked, 1));
@@ -383,11 +451,12 @@ static void opening(struct osdp_panel *panel, struct osdp_device *reader)
 
     to_panel(panel, &answer->burst, 1410);
     struct osdp_report *report = report_of(panel);
-    demand(report->kind == OSDP_REPORT_OPENED && report->entry == 0 && report->detail == 0);
+    demand(report->kind == OSDP_REPORT_OPENED && report->entry == 0 && report->detail == 0 && has_no_order(report, 0));
     demand(is_none(&report->command) && is_message(&report->reply, 0x45, id, 12));
     report = report_of(panel);
-    demand(report->kind == OSDP_REPORT_NONE && report->entry == 0 && report->detail == 0);
+    demand(report->kind == OSDP_REPORT_NONE && report->entry == 0 && report->detail == 0 && has_no_order(report, 0));
     demand(is_none(&report->command) && is_none(&report->reply));
+    rests(panel, 1410);
 }
 
 /* A command of the largest size there is, which the reader refuses: both arrays are full. */
@@ -398,9 +467,9 @@ static void largest(struct osdp_panel *panel, struct osdp_device *reader)
     for (size_t i = 0; i < sizeof data; i++) {
         data[i] = (uint8_t)(i * 7 + 1);
     }
-    demand(osdp_panel_submit(panel, 0, 0x80, data, 1433) == OSDP_BAD_LENGTH);
-    demand(osdp_panel_submit(panel, 0, 0x80, data, 1432) == OSDP_OK);
-    struct osdp_burst *burst = burst_of(panel, 1500);
+    demand(gives_data(panel, 0, 0x80, data, 1433) == OSDP_BAD_LENGTH);
+    demand(gives_data(panel, 0, 0x80, data, 1432) == OSDP_OK);
+    const struct osdp_burst *burst = burst_of(panel, 1500);
     demand(burst->length == 1440 && is_burst(burst, 5, 1, 0x80, data, 1432));
     struct osdp_answer *answer = answer_of(reader, burst, 1500);
     demand(answer->kind == OSDP_SAID_PENDING && answer->order == OSDP_ORDER_PENDING && answer->moved == 0);
@@ -416,25 +485,27 @@ static void largest(struct osdp_panel *panel, struct osdp_device *reader)
     demand(is_message(&answer->command, 0x80, data, 1432) && is_burst(&answer->burst, 0x85, 1, 0x41, refused, 1));
     to_panel(panel, &answer->burst, 1510);
     struct osdp_report *report = report_of(panel);
-    demand(report->kind == OSDP_REPORT_SETTLED && report->entry == 0 && report->detail == 0);
+    demand(report->kind == OSDP_REPORT_SETTLED && report->entry == 0 && report->detail == 0 && has_order(report, 72));
     demand(is_message(&report->command, 0x80, data, 1432) && is_message(&report->reply, 0x41, refused, 1));
+    rests(panel, 1510);
 }
 
 /* An event is told, and the reader moves. */
 static void moving(struct osdp_panel *panel, struct osdp_device *reader)
 {
     const uint8_t keys[] = { 0, 1, '7' }, none[] = { 0 }, set[] = { 9, 0x00, 0x4B, 0, 0 };
-    struct osdp_burst *burst = burst_of(panel, 1600);
+    const struct osdp_burst *burst = burst_of(panel, 1600);
     demand(is_burst(burst, 5, 2, 0x60, none, 0));
     struct osdp_answer *answer = answer_of(reader, burst, 1600);
     demand(answer->kind == OSDP_SAID_TAKEN && answer->order == OSDP_ORDER_NONE && is_none(&answer->command));
     demand(is_burst(&answer->burst, 0x85, 2, 0x53, keys, 3));
     to_panel(panel, &answer->burst, 1610);
     struct osdp_report *report = report_of(panel);
-    demand(report->kind == OSDP_REPORT_EVENT && report->entry == 0 && report->detail == 0);
+    demand(report->kind == OSDP_REPORT_EVENT && report->entry == 0 && report->detail == 0 && has_no_order(report, 1600));
     demand(is_none(&report->command) && is_message(&report->reply, 0x53, keys, 3));
+    rests(panel, 1610);
 
-    demand(osdp_panel_submit(panel, 0, 0x6E, set, 5) == OSDP_OK);
+    demand(gives_data(panel, 0, 0x6E, set, 5) == OSDP_OK);
     burst = burst_of(panel, 1700);
     demand(is_burst(burst, 5, 3, 0x6E, set, 5));
     answer = answer_of(reader, burst, 1700);
@@ -443,8 +514,9 @@ static void moving(struct osdp_panel *panel, struct osdp_device *reader)
     demand(is_message(&answer->command, 0x6E, set, 5) && is_burst(&answer->burst, 0x85, 3, 0x54, set, 5));
     to_panel(panel, &answer->burst, 1710);
     report = report_of(panel);
-    demand(report->kind == OSDP_REPORT_MOVED && report->entry == 0 && report->detail == 0);
+    demand(report->kind == OSDP_REPORT_MOVED && report->entry == 0 && report->detail == 0 && has_order(report, 73));
     demand(is_message(&report->command, 0x6E, set, 5) && is_message(&report->reply, 0x54, set, 5));
+    rests(panel, 1710);
 }
 
 /* Nobody answers at the second entry: after three sends the session is lost. */
@@ -455,9 +527,9 @@ static void losing(struct osdp_panel *panel)
     for (uint64_t now = 2400; now < 3000; now += 200) {
         demand(is_burst(burst_of(panel, now), 6, 0, 0x61, asked, 1));
     }
-    demand(burst_of(panel, 3000)->length == 0);
+    demand(!sends(panel, 3000));
     struct osdp_report *report = report_of(panel);
-    demand(report->kind == OSDP_REPORT_LOST && report->entry == 1 && report->detail == OSDP_LOST_NO_REPLY);
+    demand(report->kind == OSDP_REPORT_LOST && report->entry == 1 && report->detail == OSDP_LOST_NO_REPLY && has_no_order(report, 0));
     demand(is_none(&report->command) && is_none(&report->reply));
 }
 
@@ -516,6 +588,7 @@ int main(void)
         settings();
         no_machines(panel, reader);
         new_machines(panel, reader);
+        numbers(panel);
         waiting(panel, reader);
         known(panel, reader);
         fields();
