@@ -32,14 +32,21 @@ fn hear(
     }
 }
 
-/// A device's turn: it hears the bytes that have come, and then the moment. `obey` does what an answer says, and then sends it: so what is answered was done, also
-/// where power is lost in between.
+/// A device's turn: it hears the bytes that have come, and then the moment. Where the program stood still it hears none of them, as a line may lose them: its panel
+/// has given them up. `obey` does what an answer says, and then sends it: so what is answered was done, also where power is lost in between.
 pub fn take_turn(
     device: &mut Device,
-    bytes: &[u8],
-    now: Moment,
+    came: &Came,
     mut obey: impl FnMut(Answer<'_>) -> Said,
 ) -> Done {
+    let (bytes, now) = (
+        if came.stood_still {
+            &[]
+        } else {
+            &came.bytes[..]
+        },
+        came.now,
+    );
     hear(device, bytes, now, &mut obey)?;
     if let Some(answer) = device.tick(now)?.answer {
         let said = obey(answer)?;
@@ -60,9 +67,8 @@ pub fn let_go(device: &mut Device, now: Moment, too_old: Duration) -> Done {
 
 /// Whether a line that tells a card or keys came while the program stood still, which is told: nobody stands there any more.
 pub fn is_too_old(came: &Came, line: &str) -> io::Result<bool> {
-    let is_old = came.stood_still && !line.starts_with("ISTATR ");
-    if is_old {
-        tell(format_args!("too old {line}"))?;
+    match line.starts_with("ISTATR ") {
+        true => Ok(false),
+        false => came.is_too_old(line),
     }
-    Ok(is_old)
 }

@@ -1,5 +1,5 @@
 //! A serial port, a clock, and lines of standard input, by `std` and three calls of the system: `stty` sets the port. One thread waits for both, takes the moment, and
-//! then reads all that is there: so nothing of it is older than the program may be late.
+//! then reads all that is there.
 pub mod device;
 pub mod door;
 pub mod ledger;
@@ -7,7 +7,7 @@ mod sqlite;
 pub mod stand;
 pub mod store;
 
-use osdp::{Answer, Device, Expired, Moment, Order};
+use osdp::{Answer, Device, Expired, Moment, Order, Unsent};
 use std::error::Error;
 use std::ffi::{c_int, c_short, c_ulong};
 use std::fmt::Display;
@@ -36,12 +36,10 @@ unsafe extern "C" {
     fn poll(files: *mut Waited, count: c_ulong, wait: c_int) -> c_int;
 }
 
-// Numbers of Linux: neither to wait at a read nor at the opening, nor to take the port as the terminal of the program; to let no other program open the port; to drop
-// what has come; and to wait for bytes, or until bytes can be written.
+// Numbers of Linux: neither to wait at a read nor at the opening, nor to take the port as the terminal of the program; to let no other program open the port; and to
+// wait for bytes, or until bytes can be written.
 const O_NONBLOCK_NOCTTY: i32 = 0o4400;
 const TIOCEXCL: c_ulong = 0x540C;
-const TCFLSH: c_ulong = 0x540B;
-const TCIFLUSH: c_int = 0;
 const POLLIN: c_short = 1;
 const POLLOUT: c_short = 4;
 /// The clock that goes on while the computer sleeps, so that a card from before is seen as old. That of `Instant` stands still then.
@@ -63,9 +61,18 @@ pub struct Came {
     pub now: Moment,
     pub bytes: Vec<u8>,
     pub lines: Vec<String>,
-    /// Whether the program stood still for longer than it may be late: it was stopped, or the computer has slept, or what it did before took so long. Then bytes that
-    /// had come are dropped, as a line may lose them.
+    /// Whether the program stood still for longer than it may be late: it was stopped, or the computer has slept, or what it did before took so long.
     pub stood_still: bool,
+}
+
+impl Came {
+    /// Whether the program stood still as a line came, which is told: nobody knows when it was typed.
+    pub fn is_too_old(&self, line: &str) -> io::Result<bool> {
+        if self.stood_still {
+            tell(format_args!("too old {line}"))?;
+        }
+        Ok(self.stood_still)
+    }
 }
 
 /// What the words of a program say beside its port and the rate.
@@ -155,7 +162,7 @@ impl Port {
         self.options.late.unwrap_or(LATE)
     }
 
-    /// Waits for bytes or lines, up to a moment, and then reads all that is there. An error where the port is gone.
+    /// Waits for bytes or lines, up to a moment. Then it takes the moment, and reads all that is there. An error where the port is gone.
     pub fn wait(&mut self, until: Moment) -> io::Result<Came> {
         let late = self.late();
         let began = self.now();
@@ -163,26 +170,28 @@ impl Port {
         let wait = until.since(began).min(LONGEST);
         let [has_bytes, has_lines] = self.ready(POLLIN, wait);
         let now = self.now();
-        let mut came = Came {
-            now,
-            bytes: Vec::new(),
-            lines: Vec::new(),
-            stood_still: began.since(last) > late || now.since(last) > wait + late,
-        };
         self.last = Some(now);
-        self.drop_if(came.stood_still);
-        if has_lines {
-            came.lines = self.read_lines()?;
+        let lines = if has_lines {
+            self.read_lines()?
+        } else {
+            Vec::new()
+        };
+        let mut bytes = if has_bytes {
+            self.read_bytes()?
+        } else {
+            Vec::new()
+        };
+        let stood_still =
+            began.since(last) > late || now.since(last) > wait + late || self.is_late(now);
+        if stood_still {
+            bytes.extend(self.read_bytes()?); // what came since the wait is of that time too
         }
-        if has_bytes && !came.stood_still {
-            came.bytes = self.read_bytes()?;
-        }
-        if self.is_late(now) {
-            came.stood_still = true; // since the wait has ended: what was read may be of long ago too
-            came.bytes.clear();
-            self.drop_if(true);
-        }
-        Ok(came)
+        Ok(Came {
+            now,
+            bytes,
+            lines,
+            stood_still,
+        })
     }
 
     /// Waits so long at most. Whether the port is ready, and whether standard input has something.
@@ -200,14 +209,6 @@ impl Port {
         // SAFETY: there are two files. Where the call fails, as by a signal, nothing was found.
         let _ = unsafe { poll(files.as_mut_ptr(), 2, wait.as_millis() as c_int) };
         files.map(|file| file.found != 0)
-    }
-
-    /// Drops the bytes that have come.
-    fn drop_if(&self, is_old: bool) {
-        if is_old {
-            // SAFETY: the call gets an open file and a number. Where it fails nothing was dropped, as where nothing has come.
-            let _ = unsafe { ioctl(self.file.as_raw_fd(), TCFLSH, TCIFLUSH) };
-        }
     }
 
     /// All bytes that are there; none where another program has taken them away.
@@ -259,12 +260,9 @@ impl Port {
         Ok(lines)
     }
 
-    /// Writes bytes that were made at a moment, if they aren't late. Whether they were written. An error where the port takes nothing for five seconds.
-    pub fn write(&mut self, mut bytes: &[u8], since: Moment) -> io::Result<bool> {
+    /// Writes bytes, all of them. An error where the port takes nothing for five seconds.
+    fn write(&mut self, mut bytes: &[u8]) -> io::Result<()> {
         let began = self.now();
-        if self.is_late(since) {
-            return Ok(false);
-        }
         while !bytes.is_empty() {
             match self.file.write(bytes) {
                 Ok(count) => bytes = &bytes[count..],
@@ -278,7 +276,19 @@ impl Port {
                 Err(error) => return Err(error),
             }
         }
-        Ok(true)
+        Ok(())
+    }
+}
+
+/// What a panel needs beside it, and a device doesn't.
+#[allow(dead_code)]
+impl Port {
+    /// Writes what a panel has to send. The moment is taken here: a program that stood still since the tick sends no order that has become too old.
+    pub fn write_unsent(&mut self, unsent: Unsent<'_>) -> io::Result<()> {
+        match unsent.write(self.now()) {
+            Ok(burst) => self.write(&burst),
+            Err(_) => Ok(()), // the moment lies more than a day ahead: the burst is lost, and the next turn sets the moment
+        }
     }
 }
 
@@ -427,7 +437,10 @@ impl Port {
         if let Some(to) = moved {
             self.keep((to.address, to.baud_rate))?;
         }
-        let order = answer.send(|burst| self.write(burst, now).map(drop))?;
+        let order = answer.send(|burst| match self.is_late(now) {
+            true => Ok(()),
+            false => self.write(burst),
+        })?;
         moved.map_or(Ok(()), |to| self.set_rate(to.baud_rate))?;
         Ok(order)
     }
