@@ -7,9 +7,9 @@ the packet of that turn goes out. So the program may be ended at any moment, als
 second order for a card, and acts on no order twice. `again:` stands before what it tells then, and may have told already. After a COMSET it looks for the door at both places.
 Another device in the door's place gets no order.
 
-Where it stood still for more than MS milliseconds, 5000 if not said, also since the disk took so long, no order and no card of before opens the door: it lets the
-session end. Then the order that may have gone out is in doubt, and those that wait are taken back. Where STORE can't be written it ends with status 3, and nothing of that
-turn has happened.
+An order goes out within MS milliseconds, 5000 if not said, after it was typed or its card was asked for, however long the program stood still or the disk took. Where it
+waited for longer it is told as `back`, since it never went out; where it may have gone out it is in doubt. Where STORE can't be written the program ends with status 3, and
+nothing of that turn has happened.
 
 It stands beside the folder `examples`, of which it takes the port. It needs the package osdp on PYTHONPATH, or the folder above this one."""
 import sys
@@ -34,21 +34,19 @@ OPTIONS = {"--new": False, "--retain": None}
 def turn(door, port, lines):
     """Waits for what comes next, and does all of it. What of it is to last is on the disk before the packet goes out."""
     due = door.due()
-    read, typed = port.wait(lines, None if due is None else max(due - moment(), 0) / 1000)
+    read = port.hear(lines, None if due is None else max(due - moment(), 0) / 1000)
     now = port.turns.now  # after the wait, and before the read
     door.begins_turn()
     door.panel.set_moment(now)
     door.panel.hear(b"".join(read), now)
-    if port.turns.stood_still:
-        door.leaves()
     door.take_reports(now)
-    for line in typed:
-        door.take_line(line.strip())
+    for line in lines.typed():
+        door.take_line(line.strip(), lines.empty_at + port.turns.late)
     door.begin(now)
-    burst = door.panel.tick(now)
-    door.take_reports(now)  # before the packet goes out: by that the device may forget an event
-    door.ends_turn()
-    door.write(burst)
+    sends = door.panel.tick(now)
+    door.ends_turn()  # before the packet goes out: by that the device may forget an event
+    if sends:
+        door.write()
 
 
 def main():
