@@ -31,15 +31,12 @@ fn take_reports(panel: &mut Panel, door: &mut Door, port: &Port, now: Moment) ->
     while let Some(told) = panel.next_report() {
         tell(format_args!("{:?}", told.report))?;
         door.heed(&told.report, now)?;
-        let (Report::Event(Reply::Raw(card)), Some(since)) = (&told.report, told.since) else {
-            continue;
-        };
-        if port.is_late(since) {
-            tell("too old: the door stays closed")?;
-            continue;
-        }
         // a card that may have been told before makes no second order
-        if door.may_order && !told.maybe_again && may_enter(card) {
+        if let (Report::Event(Reply::Raw(card)), Some(since)) = (&told.report, told.since)
+            && door.may_order
+            && !told.maybe_again
+            && may_enter(card)
+        {
             let until = since + port.late(); // the door opens in time for its card, or not at all
             match panel.submit(door.entry, &Command::out(&[STRIKE])?, until) {
                 Err(Error::Full) => {} // as many orders wait as may: the door stays closed
@@ -61,8 +58,7 @@ fn run(mut port: Port) -> Done {
         panel.on_bytes(&came.bytes, now)?;
         take_reports(&mut panel, &mut door, &port, now)?;
         for line in &came.lines {
-            let until = now + port.late();
-            if !came.is_too_old(line)? && !door.take_line(&mut panel, line, until)? {
+            if !door.take_line(&mut panel, line, came.typed + port.late())? {
                 tell(format_args!("refused line {line}"))?;
             }
         }

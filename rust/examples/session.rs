@@ -19,7 +19,7 @@ const CARDS_ARE_TOLD: Capability = Capability {
     count: 0,
 };
 const CARDS: usize = 20;
-/// How old a card may be that opens the door.
+/// The door opens so long after its card at most.
 const OLD: Duration = Duration::from_secs(5);
 
 /// The line from the device to the panel. It loses one answer in seven.
@@ -99,9 +99,7 @@ fn main() -> Result<(), Error> {
         while let Some(told) = panel.next_report() {
             match (told.report, told.since) {
                 (Report::Opened(id), _) => tell(&format!("opened by {id:?}")),
-                (Report::Event(reply), Some(since))
-                    if !told.maybe_again && now.since(since) <= OLD =>
-                {
+                (Report::Event(reply), Some(since)) if !told.maybe_again => {
                     assert_eq!(reply, event);
                     cards += 1;
                     panel.submit(told.entry, &Command::out(&[STRIKE])?, since + OLD)?;

@@ -238,7 +238,7 @@ impl Door {
     }
 
     /// Stores an event, and opens the door for a card. One that may have been reported before makes no second order: the panel has marked it, or it is the first
-    /// one since this program has started, and the last one that is stored. Nor does one of long ago make an order, and that of another goes out in time for it.
+    /// one since this program has started, and the last one that is stored. The order goes out in time for its card, or not at all.
     fn event(&mut self, event: &Reply, told: &PanelReport, port: &Port, since: Moment) -> Done {
         let text = text_of(event);
         let is_last = self.is_new && self.ledger.last_event()?.as_deref() == Some(&text);
@@ -248,9 +248,6 @@ impl Door {
         let how = if is_again { "maybe again" } else { "event" };
         self.ledger.say(format!("{how} {text}"));
         match event {
-            Reply::Raw(_) if port.is_late(since) => self
-                .ledger
-                .say("too old: the door stays closed".to_string()),
             Reply::Raw(card) if may_enter(card) && !is_again && !self.is_left => {
                 self.order(&Command::out(&[STRIKE])?, since + port.late(), port)?;
             }
@@ -350,9 +347,7 @@ fn turn(door: &mut Door, port: &mut Port) -> Done {
     door.panel.on_bytes(&came.bytes, now)?;
     door.take_reports(port, now)?;
     for line in &came.lines {
-        if came.stood_still {
-            door.ledger.say(format!("too old {line}"));
-        } else if !door.take_line(line, now + port.late(), port)? {
+        if !door.take_line(line, came.typed + port.late(), port)? {
             door.ledger.say(format!("refused line {line}"));
         }
     }

@@ -92,10 +92,7 @@ impl Doors {
                     .order(&mut self.panel, door, &asks, Moment::NEVER)?;
             }
             match (told.report, told.since) {
-                (Report::Event(Reply::Raw(_)), Some(since)) if port.is_late(since) => {
-                    tell(format_args!("too old: door {number} stays locked"))?
-                }
-                // a card that may have been told before unlocks nothing again
+                // a card that may have been told before unlocks nothing again, and one of long ago nothing at all
                 (Report::Event(Reply::Raw(card)), Some(since))
                     if !told.maybe_again && may_enter(&card, door.index()) =>
                 {

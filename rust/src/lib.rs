@@ -28,10 +28,8 @@
 //!     while let Some((told, _)) = site.next_report(panel, moment) {
 //!         match (told.report, told.since) {
 //!             // a card that may have been told before opens nothing again, and one of long ago nothing at all
-//!             (Report::Event(Reply::Raw(card)), Some(since)) if !told.maybe_again && now().since(since) <= LATE => {
-//!                 if may_enter(&card) {
-//!                     open(panel, site, told.entry, since + LATE)?;
-//!                 }
+//!             (Report::Event(Reply::Raw(card)), Some(since)) if !told.maybe_again && may_enter(&card) => {
+//!                 open(panel, site, told.entry, since + LATE)?;
 //!             }
 //!             _ => {}
 //!         }

@@ -27,8 +27,8 @@ pub struct PanelReport {
     pub entry: EntryNumber,
     /// The number of the order that it is about: the one that `Panel::submit` told. None where it is about none.
     pub number: Option<u64>,
-    /// Of an event: the moment at which the POLL was first sent that it answers. The device offered the event no earlier. A program opens no door for a card
-    /// that is older than a time that it sets. None of all others.
+    /// Of an event: the moment at which the POLL was first sent that it answers. The device offered the event no earlier. An order for a card lasts from then on:
+    /// so no door opens later than that for it. None of all others.
     pub since: Option<Moment>,
     /// Whether it is an event that may have been reported before: it is the first of its session, and equal in all its bytes to the event of that device that was
     /// reported last. A lost session may lose the answer that carries an event, and the device sends the event again then. Make no second order of such an event

@@ -7,7 +7,7 @@ mod sqlite;
 pub mod stand;
 pub mod store;
 
-use osdp::{Answer, Device, Expired, Moment, Order, Unsent};
+use osdp::{Moment, Unsent};
 use std::error::Error;
 use std::ffi::{c_int, c_short, c_ulong};
 use std::fmt::Display;
@@ -18,7 +18,6 @@ use std::os::unix::fs::{MetadataExt, OpenOptionsExt};
 use std::process::{Command, ExitCode, Stdio};
 use std::time::Duration;
 
-use stand::{Stand, read_stands, write_stand};
 use store::Store;
 
 /// A file that is waited for, as `poll` takes it.
@@ -61,18 +60,11 @@ pub struct Came {
     pub now: Moment,
     pub bytes: Vec<u8>,
     pub lines: Vec<String>,
+    /// When standard input was last seen empty: the lines were typed after that.
+    #[allow(dead_code)] // a device's program has no use for it
+    pub typed: Moment,
     /// Whether the program stood still for longer than it may be late: it was stopped, or the computer has slept, or what it did before took so long.
     pub stood_still: bool,
-}
-
-impl Came {
-    /// Whether the program stood still as a line came, which is told: nobody knows when it was typed.
-    pub fn is_too_old(&self, line: &str) -> io::Result<bool> {
-        if self.stood_still {
-            tell(format_args!("too old {line}"))?;
-        }
-        Ok(self.stood_still)
-    }
 }
 
 /// What the words of a program say beside its port and the rate.
@@ -90,6 +82,8 @@ pub struct Port {
     started: Duration,
     /// When the last wait ended.
     last: Option<Moment>,
+    /// When standard input was last seen empty.
+    empty: Moment,
     /// A line that isn't whole yet; none once standard input has ended.
     line: Option<Vec<u8>>,
     /// The rate that the words of the program have, and what else they say.
@@ -129,6 +123,7 @@ impl Port {
             file,
             started: boot_time(),
             last: None,
+            empty: Moment::from_millis(0),
             line: Some(Vec::new()),
             rate,
             options,
@@ -170,7 +165,9 @@ impl Port {
         let wait = until.since(began).min(LONGEST);
         let [has_bytes, has_lines] = self.ready(POLLIN, wait);
         let now = self.now();
+        let typed = self.empty;
         self.last = Some(now);
+        self.empty = if has_lines { typed } else { began };
         let lines = if has_lines {
             self.read_lines()?
         } else {
@@ -190,6 +187,7 @@ impl Port {
             now,
             bytes,
             lines,
+            typed,
             stood_still,
         })
     }
@@ -350,100 +348,6 @@ fn taken(path: &str) -> io::Error {
     });
     let owner = owner.unwrap_or_default();
     io::Error::other(format!("another program has the port {path}{owner}"))
-}
-
-/// What a device needs beside it, and a panel doesn't.
-#[allow(dead_code)]
-impl Port {
-    /// The address of a device that keeps its place: the one in the store, to whose rate the port is set, or its first one where nothing was kept yet.
-    pub fn address(&mut self, first: u8) -> Result<u8, Box<dyn Error>> {
-        (self.name, self.address) = (first, first);
-        let Some(path) = self.options.kept.clone() else {
-            return Ok(first);
-        };
-        let store = Store::open(&path, "device", self.options.is_new)?;
-        let stands = read_stands(&store)?;
-        self.store = Some(store);
-        match &stands[..] {
-            [] => self.keep((first, self.rate))?,
-            [mine] => {
-                let (address, rate) = mine.place();
-                (self.name, self.address) = (mine.name, address);
-                self.set_rate(rate).map_err(|_| {
-                    format!("the port can't be set to {rate}, the rate that {path} has")
-                })?;
-            }
-            _ => Err(format!(
-                "{path} keeps several devices, and a device is one: name another file"
-            ))?,
-        }
-        Ok(self.address)
-    }
-
-    /// Keeps where the device is from now on. Tells where that can't be done.
-    fn keep(&mut self, place: (u8, u32)) -> io::Result<()> {
-        let Some(store) = &mut self.store else {
-            return Ok(());
-        };
-        let stand = Stand {
-            name: self.name,
-            places: vec![place],
-            id: None,
-        };
-        match write_stand(store, &stand).and_then(|()| store.commit()) {
-            Ok(()) => Ok(()),
-            Err(why) => tell(format_args!("not kept {} {}: {why}", place.0, place.1)),
-        }
-    }
-
-    /// Whether the port can be set to a rate: it is set to it, and back.
-    pub fn can_have(&self, rate: u32) -> bool {
-        let takes = RATES.contains(&rate) && set(&self.file, rate).is_ok();
-        set(&self.file, self.rate).is_ok() && takes
-    }
-
-    /// Where a COMSET was refused since the last call, the device is made anew where it was, by `start` at its address. The events that wait are told: no panel
-    /// gets them.
-    pub fn starts_anew(
-        &mut self,
-        device: &mut Device,
-        start: impl FnOnce(u8) -> Result<Device, osdp::Error>,
-    ) -> Result<(), Box<dyn Error>> {
-        if std::mem::take(&mut self.has_refused) {
-            while let Some(event) = device.lapse_event() {
-                tell(format_args!("{:?}", Expired::InDoubt(event)))?;
-            }
-            while let Some(event) = device.withdraw_event() {
-                tell(format_args!("{:?}", Expired::Withdrawn(event)))?;
-            }
-            *device = start(self.address)?;
-        }
-        Ok(())
-    }
-
-    /// Sends the answer of a device to what came by a moment, if it isn't late. Where it has moved, its place is kept before the panel is told, and the port goes to its
-    /// rate after that. A COM of a rate that the port hasn't isn't sent, since nobody would find the device there: it is made anew where it was, as after a loss of
-    /// power.
-    pub fn send(&mut self, answer: Answer<'_>, now: Moment) -> io::Result<Option<Order>> {
-        let moved = answer.moved;
-        if let Some(to) = moved {
-            self.has_refused = !self.can_have(to.baud_rate);
-            if self.has_refused {
-                tell(format_args!("no rate {}", to.baud_rate))?;
-                return Ok(None);
-            }
-            self.address = to.address;
-        }
-        if let Some(to) = moved {
-            self.keep((to.address, to.baud_rate))?;
-        }
-        let order = answer.send(|burst| match self.is_late(now) {
-            true => Ok(()),
-            false => self.write(burst),
-        })?;
-        moved.map_or(Ok(()), |to| self.set_rate(to.baud_rate))?;
-        Ok(order)
-    }
 }
 
 /// A device's two numbers, as /proc/locks has them.
