@@ -253,7 +253,7 @@ def old_order(name, before, after):
 
 
 def slow_disk(name, before, after):
-    """To store a card and its order takes longer than the panel may be late: the order doesn't go out, and is in doubt."""
+    """To store a card and its order takes longer than the panel may be late: the order expires, and is told as taken back. The session goes on."""
     with tempfile.TemporaryDirectory() as folder:
         library, slow = Path(folder) / "slow.so", Path(folder) / "slow"
         subprocess.run([os.environ.get("CC", "cc"), "-O1", "-shared", "-fPIC", "-o", library, Path(__file__).resolve().with_name("slow.c")], check=True)
@@ -263,10 +263,10 @@ def slow_disk(name, before, after):
             asks(line.until(tells(line.script, "order 1 OUT 0:5:30")), f"{name}, disk: the card makes no order: {line.script.lines}")
             line.device.replies[POLL] = (ACK, b"")
             slow.unlink()
-            asks(line.until(tells(line.script, "doubt 1 OUT 0:5:30")), f"{name}, disk: it isn't told: {line.script.lines}")
-            line.until(lambda: line.opened() == 2, 5)
+            asks(line.until(tells(line.script, "back 1 OUT 0:5:30")), f"{name}, disk: it isn't told: {line.script.lines}")
             line.script.say("OUT 0:5:33")
             asks(line.until(lambda: line.outs() == [bytes([0, 5, 33, 0])]), f"{name}, disk: sent are {line.outs()}: {line.script.lines}")
+            asks(line.opened() == 1, f"{name}, disk: the session ends: {line.script.lines}")
 
 
 PANELS = (("stopped", partial(panel_stands_still, "stopped")), ("unread", partial(panel_stands_still, "unread")), ("late", late_packet), ("quiet", quiet_panel))
