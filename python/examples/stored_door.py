@@ -31,10 +31,10 @@ def place_of(message):
 
 
 class Door:
-    """The panel with its door."""
+    """The panel with its door. An order lasts so many milliseconds."""
 
-    def __init__(self, store, port, rate):
-        self.store, self.port, self.said = store, port, []
+    def __init__(self, store, port, rate, lasts):
+        self.store, self.port, self.lasts, self.said = store, port, lasts, []
         self.places, self.identity = store.devices().get(NAME, ([(NAME, rate)], None))  # the first place is where it was tried last
         self.panel = osdp.Panel()
         self.entry, self.begins = self.panel.add(self.places[0][0], store.next_order(NAME)), 0
@@ -201,7 +201,7 @@ class Door:
         self.said.append(f"{'maybe again' if is_again else 'event'} {text}")
         card = report.reply.card()
         if card and may_enter(card) and not is_again and not self.is_left:
-            self.order(STRIKE, report.since + self.port.turns.late)
+            self.order(STRIKE, report.since + self.lasts)
 
     def unread(self, report):
         self.said.append(f"unread code {report.code:02X}")
@@ -258,4 +258,4 @@ class Door:
         self.panel.set_moment(now)
         burst = self.panel.write(now)
         if not self.is_left:
-            self.port.send(burst)
+            self.port.write(burst)

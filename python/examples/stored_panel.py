@@ -12,6 +12,7 @@ waited for longer it is told as `back`, since it never went out; where it may ha
 nothing of that turn has happened.
 
 It stands beside the folder `examples`, of which it takes the port. It needs the package osdp on PYTHONPATH, or the folder above this one."""
+import math
 import sys
 from pathlib import Path
 
@@ -23,7 +24,7 @@ try:
 except ImportError as error:
     sys.exit(str(error))
 from lines import BAD_WORDS, Lines, number, stop, take_words  # noqa: E402
-from moments import moment  # noqa: E402
+from moments import Turns, moment  # noqa: E402
 from port import Port  # noqa: E402
 from store import Store, StoreError  # noqa: E402
 from stored_door import Door  # noqa: E402
@@ -33,15 +34,15 @@ OPTIONS = {"--new": False, "--retain": None}
 
 def turn(door, port, lines):
     """Waits for what comes next, and does all of it. What of it is to last is on the disk before the packet goes out."""
-    due = door.due()
-    read = port.hear(lines, None if due is None else max(due - moment(), 0) / 1000)
+    due, since = door.due(), lines.since()
+    read, typed = port.wait(lines, None if due is None else max(due - moment(), 0) / 1000)
     now = port.turns.now  # after the wait, and before the read
     door.begins_turn()
     door.panel.set_moment(now)
     door.panel.hear(b"".join(read), now)
     door.take_reports(now)
-    for line in lines.typed():
-        door.take_line(line.strip(), lines.empty_at + port.turns.late)
+    for line in typed:
+        door.take_line(line.strip(), since + door.lasts)
     door.begin(now)
     sends = door.panel.tick(now)
     door.ends_turn()  # before the packet goes out: by that the device may forget an event
@@ -55,11 +56,12 @@ def main():
         stop("bad words: --help tells the right ones", BAD_WORDS)
     retain = None if OPTIONS["--retain"] is None else number(OPTIONS["--retain"], "--retain")
     port, lines = Port(where, number(rate, "rate")), Lines()
+    lasts, Turns.late = Turns.late, math.inf  # the panel itself keeps orders from going out late
     try:
         store = Store(path, "panel", OPTIONS["--new"])
         if retain is not None:
             store.retain(retain)
-        door = Door(store, port, port.rate)
+        door = Door(store, port, port.rate, lasts)
         while True:
             turn(door, port, lines)
     except StoreError as error:
