@@ -260,7 +260,7 @@ def slow_disk(name, before, after):
         with Panel(name, before, after, env={**os.environ, "LD_PRELOAD": str(library), "SLOW_SYNC": "2500", "SLOW_WHERE": str(slow)}) as line:
             slow.touch()
             line.device.replies[POLL] = (RAW, CARD)
-            asks(line.until(tells(line.script, "order 1 OUT 0:5:30")), f"{name}, disk: the card makes no order: {line.script.lines}")
+            asks(line.until(lambda: any(told.endswith("OUT 0:5:30") for told in line.script.lines)), f"{name}, disk: the card makes no order: {line.script.lines}")
             line.device.replies[POLL] = (ACK, b"")
             slow.unlink()
             asks(line.until(tells(line.script, "back 1 OUT 0:5:30")), f"{name}, disk: it isn't told: {line.script.lines}")
