@@ -224,7 +224,7 @@ def late_deed(name, before, after):
 
 
 def old_card(name, before, after):
-    """A card comes while the panel is stopped: it opens no door. A card after that does."""
+    """A card comes while the panel is stopped: it opens no door, since its order expires. The session goes on, and a card after that opens the door."""
     with Panel(name, before, after) as line:
         line.held = [POLL]
         line.device.asked.clear()
@@ -232,14 +232,15 @@ def old_card(name, before, after):
         with stopped(line.script):
             line.device.write(packet(0x85, line.device.asked[-1][4] & 3, RAW, CARD))
             line.goes_on()
-        asks(line.until(lambda: line.opened() == 2), f"{name}, card: its session doesn't end and open again: {line.script.lines}")
-        asks(line.outs() == [] and tells(line.script, "too old: the door stays closed")(), f"{name}, card: it opens the door: {line.script.lines}")
+        expired = "expired OUT 0:5:30" if name == "door_panel.py" else "back 1 OUT 0:5:30"
+        asks(line.until(tells(line.script, expired)), f"{name}, card: its order doesn't expire: {line.script.lines}")
+        asks(line.outs() == [] and line.opened() == 1, f"{name}, card: it opens the door, or the session ends: {line.script.lines}")
         line.device.replies[POLL] = (RAW, OTHER)
         asks(line.until(lambda: OLD in line.outs()), f"{name}, card: a new one doesn't open the door: {line.script.lines}")
 
 
 def old_order(name, before, after):
-    """The order of a panel that stores it has gone out once as it is stopped: it is in doubt, and goes out no more."""
+    """The order of a panel that stores it has gone out once as it is stopped: it is in doubt, and goes out no more. One that was typed meanwhile is taken back."""
     with Panel(name, before, after) as line:
         line.held = [OUT]
         line.script.say("OUT 0:5:30")
@@ -248,24 +249,24 @@ def old_order(name, before, after):
             line.script.say("OUT 0:5:32")
             line.goes_on()
         asks(line.until(lambda: line.opened() == 2 and tells(line.script, "doubt 1 OUT 0:5:30")()), f"{name}, order: it isn't in doubt: {line.script.lines}")
-        asks(line.outs() == [] and tells(line.script, "not taken OUT 0:5:32")(), f"{name}, order: one of before goes out: {line.outs()}, {line.script.lines}")
+        asks(line.outs() == [] and tells(line.script, "back 2 OUT 0:5:32")(), f"{name}, order: one of before goes out: {line.outs()}, {line.script.lines}")
 
 
 def slow_disk(name, before, after):
-    """To store a card and its order takes longer than the panel may be late: the order doesn't go out, and is in doubt."""
+    """To store a card and its order takes longer than the panel may be late: the order expires, and is told as taken back. The session goes on."""
     with tempfile.TemporaryDirectory() as folder:
         library, slow = Path(folder) / "slow.so", Path(folder) / "slow"
         subprocess.run([os.environ.get("CC", "cc"), "-O1", "-shared", "-fPIC", "-o", library, Path(__file__).resolve().with_name("slow.c")], check=True)
         with Panel(name, before, after, env={**os.environ, "LD_PRELOAD": str(library), "SLOW_SYNC": "2500", "SLOW_WHERE": str(slow)}) as line:
             slow.touch()
             line.device.replies[POLL] = (RAW, CARD)
-            asks(line.until(tells(line.script, "order 1 OUT 0:5:30")), f"{name}, disk: the card makes no order: {line.script.lines}")
+            asks(line.until(lambda: any(told.endswith("OUT 0:5:30") for told in line.script.lines)), f"{name}, disk: the card makes no order: {line.script.lines}")
             line.device.replies[POLL] = (ACK, b"")
             slow.unlink()
-            asks(line.until(tells(line.script, "doubt 1 OUT 0:5:30")), f"{name}, disk: it isn't told: {line.script.lines}")
-            line.until(lambda: line.opened() == 2, 5)
+            asks(line.until(tells(line.script, "back 1 OUT 0:5:30")), f"{name}, disk: it isn't told: {line.script.lines}")
             line.script.say("OUT 0:5:33")
             asks(line.until(lambda: line.outs() == [bytes([0, 5, 33, 0])]), f"{name}, disk: sent are {line.outs()}: {line.script.lines}")
+            asks(line.opened() == 1, f"{name}, disk: the session ends: {line.script.lines}")
 
 
 PANELS = (("stopped", partial(panel_stands_still, "stopped")), ("unread", partial(panel_stands_still, "unread")), ("late", late_packet), ("quiet", quiet_panel))
