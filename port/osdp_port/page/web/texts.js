@@ -9,7 +9,7 @@ const EN = {
   "tab.find": "Find", "tab.devices": "Devices", "tab.line": "Line", "tab.test": "Test", "tab.keep": "Keep", "tab.demo": "Demo",
 
   "find.head": "Find the devices on the line",
-  "find.lead": "Each rate is tried with both checks. Nothing is changed. First it is listened for another panel: where one speaks, nothing is sent. Put one device on the line at a time where you can.",
+  "find.lead": "The page listens first: where another panel speaks, nothing is sent. Then it tries each rate with both checks, and changes nothing. Put one device on the line at a time where you can.",
   "find.first": "Rate to try first", "find.begin": "Find devices", "find.progress": "how far the search is", "find.panel": "Run a panel with what was found", "find.told": "Each line of the search",
   "find.listens": "Listening whether another panel speaks ..", "find.asks": "Asking address {0} at {1} bits a second, with {2}", "find.everybody": "Asking all at once (address 127) at {0} bits a second, with {1}",
   "find.other": "Another panel speaks on the line, at {0} bits a second. Stop it first. Nothing was sent.",
