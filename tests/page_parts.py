@@ -217,7 +217,7 @@ def the_package():
     with tempfile.TemporaryDirectory() as folder:
         shutil.copytree(TOP / "port", Path(folder) / "port", ignore=shutil.ignore_patterns("page", "__pycache__"))
         done = subprocess.run([Path(folder) / "port/osdp-port", "--osdp", "/bin/true", "--demo", "page"], capture_output=True, text=True, check=False)
-        asks((done.returncode, done.stderr), (127, "osdp-port: the page isn't there: call  sudo apt-get install osdp-page\n"), "without the package")
+        asks((done.returncode, done.stderr), (127, "osdp-port: the page isn't there: call  sudo apt install ./osdp-page_*.deb  where the packages are\n"), "without the package")
 
 
 def colours():
