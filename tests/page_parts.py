@@ -130,7 +130,7 @@ def texts_of_orders():
         None, [], {}, {"do": "nobody"}, {"do": "gone"}, {"do": "listens"}, {"do": "panel", "addresses": [5, 5], "rate": 9600, "check": "crc", "wait": 200},
         {"do": "panel", "addresses": [], "rate": 9600, "check": "crc", "wait": 200}, {"do": "panel", "addresses": list(range(17)), "rate": 9600, "check": "crc", "wait": 200}, {"do": "panel", "addresses": [127], "rate": 9600, "check": "crc", "wait": 200},
         {"do": "panel", "addresses": [5], "rate": 9601, "check": "crc", "wait": 200}, {"do": "find", "rate": "9600"}, {"do": "find", "rate": True}, {"do": "set", "device": 0, "address": 127, "rate": 9600},
-        {"do": "test", "of": "device", "address": 5, "rate": 9600, "check": "crc", "may": ["out"]}, {"do": "test", "of": "script", "address": 5, "rate": 9600, "check": "crc", "may": []}, {"do": "trace", "on": 1},
+        {"do": "test", "of": "device", "address": 5, "rate": 9600, "check": "crc", "may": ["out"]}, {"do": "test", "of": "device", "address": 5, "rate": 9600, "check": "crc", "may": ["relay"]}, {"do": "test", "of": "script", "address": 5, "rate": 9600, "check": "crc", "may": []}, {"do": "trace", "on": 1},
         {"do": "demo", "what": "keys", "device": 0, "keys": "<script>"}, {"do": "find", "rate": []}
     ]
     commands = [{**command, "order": each} for each in bad] + others
@@ -139,6 +139,8 @@ def texts_of_orders():
             faults.append(f"a page may order {each}: {checked(each)}")
         except (desk.Bad, TypeError) as refused:
             asks(isinstance(refused, desk.Bad), True, f"how {each} is refused")
+    trial = {"do": "test", "of": "device", "address": 5, "rate": 9600, "check": "crc", "may": ["silence", "out:0", "relay:0"]}
+    asks(checked(trial), trial, "what a test may do")
     asks(checked({"do": "set", "device": 0, "address": 5, "rate": 9600, "path": "/etc"}), {"do": "set", "device": 0, "address": 5, "rate": 9600}, "a command has nothing else")
 
 
@@ -215,7 +217,7 @@ def the_package():
     with tempfile.TemporaryDirectory() as folder:
         shutil.copytree(TOP / "port", Path(folder) / "port", ignore=shutil.ignore_patterns("page", "__pycache__"))
         done = subprocess.run([Path(folder) / "port/osdp-port", "--osdp", "/bin/true", "--demo", "page"], capture_output=True, text=True, check=False)
-        asks((done.returncode, done.stderr), (127, "osdp-port: the page isn't there: call  sudo apt-get install osdp-page\n"), "without the package")
+        asks((done.returncode, done.stderr), (127, "osdp-port: the page isn't there: call  sudo apt install ./osdp-page_*.deb  where the packages are\n"), "without the package")
 
 
 def colours():

@@ -202,7 +202,8 @@ def page(words, console, osdp):
     try:
         from .page.start import page as shows
     except ModuleNotFoundError:
-        raise Stop("the page isn't there: call  sudo apt-get install osdp-page", NO_PROGRAM) from None
+        why = "the page isn't there: call  sudo apt install ./osdp-page_*.deb  where the packages are"
+        raise Stop(why, NO_PROGRAM) from None
     return shows(words, console, osdp, moment, goes_on)
 
 

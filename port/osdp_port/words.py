@@ -135,6 +135,7 @@ OPTIONS = (
     Option("--osdp", "PATH", ALL, "the program osdp, where it isn't found", is_file=True),
 )
 BY_NAME = {option.name: option for option in OPTIONS}
+IN_SCRIPTS = ("--may", "--sum")  # options that a script has as lines of its own
 HELP = HEAD + "\n" + "\n".join([*(option.row() for option in OPTIONS), "  --help, --version"]) + "\n" + TAIL
 
 
@@ -314,7 +315,8 @@ class Words:
         """Why a word that no parser has taken is wrong."""
         name = word.partition("=")[0]
         if name in BY_NAME:
-            bad(f"{name} is no option of {command}")
+            says = ": a line of the script says it" if command == "test script" and name in IN_SCRIPTS else ""
+            bad(f"{name} is no option of {command}{says}")
         bad(f"no option: {word}" if word.startswith("-") else f"{word}: nothing more stands there")
 
     def own_words(self):

@@ -24,6 +24,7 @@ LISTENS = 1.0  # seconds that the line is listened to before anything is sent
 LISTENS_ELSEWHERE = 0.3  # .. at each other rate, where bytes come that can't be read
 LATE = 5000  # milliseconds, as `osdp-port panel` has it
 TASKS = ("watch", "find", "set", "panel", "test")
+WAYS = ("search for it by Find", "see what the monitor tells")  # what advice names in place of a command: the parts of the page
 
 
 class Asking(find.Line):
@@ -250,7 +251,7 @@ class Work:
         if self.hears_a_panel():
             return
         program = Lines(self.osdp, ["panel", *SETTINGS, "check", command["check"], "reply-wait", str(command["wait"])])
-        advice = Advice(self.console.say, self.port)
+        advice = Advice(self.console.say, self.port, WAYS)
 
         def says(line):
             self.console.say(line)

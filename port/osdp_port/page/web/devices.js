@@ -79,7 +79,7 @@ function states(device) {
   const claims = (code) => ((device.caps || []).find((each) => each[0] === code) || [0, 0, 255])[2];
   const pill = (name, words, kind) => made("span", { className: `pill ${kind}`, textContent: `${name}: ${words}` });
   return [
-    ..."tamper power".split(" ").filter((each) => each in said).map((each) => pill(text(`part.${each}`), text(said[each] ? "is.bad" : "is.well"), said[each] ? "bad" : "go")),
+    ..."tamper power".split(" ").filter((each) => each in said).map((each) => pill(text(`part.${each}`), text(`${each}.${said[each] ? 1 : 0}`), said[each] ? "bad" : "go")),
     ...["input", "output"].flatMap((each, kind) => (said[`${each}s`] || []).slice(0, claims(kind + 1)).map((on, place) => pill(text(`part.${each}`, place), text(on ? "is.on" : "is.off"), on ? "busy" : ""))),
   ];
 }
