@@ -68,7 +68,7 @@ class Lines:
 
     def __init__(self):
         self.rest, self.is_over = b"", sys.stdin is None
-        self.empty_at = moment()  # when standard input was last seen empty: what is read was typed since
+        self.empty_at = moment()
 
     def read(self):
         piece = os.read(0, 4096)
@@ -80,13 +80,12 @@ class Lines:
             else:
                 tell("refused line")
 
-    def typed(self):
-        """The lines that are there. They were typed after `empty_at`."""
+    def since(self):
+        """A moment before which no line was typed that isn't read yet: the one at which standard input was last seen empty."""
         looks_at = moment()  # before the look: an example that is stopped in between takes no line for younger
-        if self.is_over or not select.select([0], [], [], 0)[0]:
+        if not select.select([0], [], [], 0)[0]:
             self.empty_at = looks_at
-            return []
-        return list(self.read())
+        return self.empty_at
 
     def refuse(self):
         """Refuses all lines that are there: they came while the program stood still, and nobody knows when."""

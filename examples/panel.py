@@ -6,17 +6,19 @@ PROGRAM is the path of osdp, with a `/` in it, where it isn't found by its name.
 a reader's number and a command, as `1 OUT 0:5:30`. The number is the place of its ADDRESS in the list, from 1. Each line of standard output is what was
 ordered, or what is reported: `opened`, `settled`, `event`, `lost` and others. Before what is told of an order stands its own number, as `order 7`.
 
-An order goes out within MS milliseconds after it was typed, 5000 if not said, or never: `--until never` lets it go out at any time. Else it is told as `expired`, and never
-goes out. A reader whose session isn't open takes no order, and what waits as a session is lost is taken back. A lost session begins again after a second. An order of which
-the example's end leaves nothing known is `in doubt`.
+An order goes out within MS milliseconds after it was typed, 5000 if not said, or never: then it is told as `expired`. With `--until never` it is never too late. A reader
+whose session isn't open takes no order, and what waits is taken back as a session is lost. One of which the example's end leaves nothing known is `in doubt`.
 Status: 2 bad words or settings, 3 the port or standard output fails, 4 out of memory, 127 there is no such program, 130 at Ctrl-C."""
+import math
+
 from lines import Lines, number, take_words, tell
-from moments import moment
+from moments import Turns, moment
 from port import Port
 from program import Program
 from readers import Readers, without_number
 
 OPTIONS = {"--until": "5000"}
+Turns.late = math.inf  # `osdp` itself keeps orders from going out late
 PAUSE = 1000  # from a lost session to the next one, in milliseconds
 
 
@@ -36,7 +38,7 @@ class Panel:
         self.due = None if last == "due none" else int(last.split()[1])
         for line in answer:
             if line.startswith("send "):
-                self.port.send(bytes.fromhex(line.split()[1]))
+                self.port.write(bytes.fromhex(line.split()[1]))
             elif line != "burst" and not line.startswith("refused B"):
                 tell(line)
                 self.heed(*without_number(line))
@@ -72,13 +74,13 @@ class Panel:
 
     def turn(self):
         """Waits for bytes, for orders or for what is due, and hands it to the program. Where a packet is to go out its moment is taken anew: so none goes out late."""
-        moments = [*self.readers.due(), *([] if self.due is None else [self.due])]
-        read = self.port.hear(self.lines, max(0, min(moments) - moment()) / 1000 if moments else None)
+        moments, since = self.readers.due() + ([] if self.due is None else [self.due]), self.lines.since()
+        read, lines = self.port.wait(self.lines, max(0, min(moments) - moment()) / 1000 if moments else None)
         self.call(f"at {self.port.turns.now}")
         for piece in read:
             self.call(f"bytes {piece.hex()}")
-        for line in self.lines.typed():
-            self.order(line, self.lines.empty_at)
+        for line in lines:
+            self.order(line, since)
         for which, reader in self.readers.items():
             if reader.begins is not None and reader.begins <= self.port.turns.now:
                 self.call(f"begin {which}")

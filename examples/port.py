@@ -74,20 +74,6 @@ class Port:
         except OSError:
             stop("the port can't be written")
 
-    def send(self, burst):
-        """Writes a packet, all of it."""
-        try:
-            while burst:
-                select.select([], [self.end], [], 1)
-                burst = burst[os.write(self.end, burst):]
-        except OSError:
-            stop("the port can't be written")
-
-    def hear(self, lines, seconds):
-        """Waits so many seconds, or until something comes, and begins a turn: its moment is taken after the wait, and before all bytes that are there are read. Their pieces."""
-        ready = self.turns.wait([self.end] + ([] if lines.is_over else [0]), seconds)
-        return self.read() if self.end in ready else []
-
     def wait(self, lines, seconds):
         """Waits so many seconds, or until something comes, and begins a turn with all that is there: the bytes of the port, in pieces, and the lines that are given.
         After the program stood still no line is given, since nobody knows when it was typed."""
