@@ -5,7 +5,7 @@ from .faults import Refused, is_number
 from .rounds import Place
 
 # For how many milliseconds an order may go out after it was typed. An exchange of a device that is busy takes
-# 3.8 s, and an order behind it still goes out. Who stands at a door that hasn't opened for 5 s tries again,
+# 3.8 s, and an order after it still goes out. Who stands at a door that hasn't opened for 5 s tries again,
 # or has left.
 LASTS = 5000
 FAULTS = {
