@@ -2,8 +2,8 @@
 them without. In place of the path stands `python` for the examples of the package for Python, whose library OSDP_LIBRARY names.
 
 A program is stopped, or nobody reads what it prints, while an order is on the wire, while one waits, or as one is typed; and a reader while an order comes. After that no
-panel sends an order of before, each order has its end, and each line that was typed meanwhile is told as not taken. No reader does what came meanwhile, nor answers it. A card
-that came meanwhile opens no door, and where storing takes too long no order goes out."""
+panel sends an order of before, and each order has its end: it is withheld, or expires, also where it was typed meanwhile. No reader does what came meanwhile, nor answers it. A
+card that came meanwhile opens no door, and where storing takes too long no order goes out."""
 import contextlib
 import fcntl
 import os
@@ -19,7 +19,7 @@ from pathlib import Path
 
 import port_line
 from port_line import ACK, ID, OUT, PDID, POLL, PORT, TOP, Device, asks, faults, opened, tells
-from terminals import Script, Terminal, packet
+from terminals import Numbered, Script, Terminal, packet
 
 LATE, STILL = 2000, 3.0  # how late the programs may be, in milliseconds; for how many seconds they stand still
 SETTINGS = "poll-interval 20 reply-wait 300 sends 3 quiet-wait 60 gap 300 check sum".split()
@@ -31,8 +31,8 @@ CARD, OTHER = (bytes([0, 0, 26, 0]) + bytes.fromhex(card) for card in ("12345640
 
 def panels():
     """What stands before the port of each panel, what after its rate, and how it names its device."""
-    yield "osdp-port panel", [PORT, "--plain", "--osdp", osdp, "--late", LATE], ["panel", "5", *SETTINGS], "5"
-    yield "panel.py", [sys.executable, "-B", TOP / "examples/panel.py", "--late", LATE], ["5", osdp, *SETTINGS], "1"
+    yield "osdp-port panel", [PORT, "--plain", "--osdp", osdp, "--until", LATE], ["panel", "5", *SETTINGS], "5"
+    yield "panel.py", [sys.executable, "-B", TOP / "examples/panel.py", "--until", LATE], ["5", osdp, *SETTINGS], "1"
 
 
 def stored_panels(folder):
@@ -79,7 +79,7 @@ class Panel:
         self.device = Device(self.terminal, is_silent=lambda burst: burst[5] in self.held)
         self.out, self.into = os.pipe()
         fcntl.fcntl(self.out, 1031, 4096)  # F_SETPIPE_SZ
-        self.script = Script(*before, self.terminal.path, 9600, *after, stdout=self.into, **streams)
+        self.script = Numbered(*before, self.terminal.path, 9600, *after, stdout=self.into, **streams)
         self.script.process.stdout = os.fdopen(self.out, "rb", buffering=0)
         os.set_blocking(self.out, False)
 
@@ -120,22 +120,21 @@ def panel_stands_still(how, name, before, after, number):
             line.script.say(f"{number} OUT 0:5:32")
             time.sleep(0.2)
             line.goes_on()
-        ends = [f"lost {number}", f"withdrawn {number} OUT 0:5:31", f"not taken {number} OUT 0:5:32", "stood still"]
+        ends = [f"lost {number} no-reply withheld OUT 0:5:30", f"expired {number} OUT 0:5:31", f"expired {number} OUT 0:5:32"]
         asks(line.until(lambda: opened(line.script, number, 2)() and all(tells(line.script, end)() for end in ends)), f"{name}, {how}: not all is told: {line.script.lines}")
-        asks(any(told.startswith(f"lost {number} ") and told.endswith(" OUT 0:5:30") for told in line.script.lines), f"{name}, {how}: the order isn't told lost: {line.script.lines}")
         asks(line.outs() == [], f"{name}, {how}: an order of before goes out: {line.outs()}")
         line.script.say(f"{number} OUT 0:5:33")
         asks(line.until(tells(line.script, f"settled {number} OUT 0:5:33 = ACK")), f"{name}, {how}: a new order isn't done: {line.script.lines[-4:]}")
 
 
 def late_packet(name, before, after, number):
-    """An order is typed while nobody reads what the panel prints: it prints first that it was ordered, so the order would go out late."""
+    """An order is typed while nobody reads what the panel prints: it prints first that it was ordered, so the order would go out late. It is withheld."""
     with Panel(name, before, after) as line:
         with unread(line.into):
             line.script.say(f"{number} OUT 0:5:30")
             time.sleep(0.2)
             line.goes_on()
-        asks(line.until(tells(line.script, f"not taken {number} OUT 0:5:30")), f"{name}, late: it isn't told: {line.script.lines}")
+        asks(line.until(tells(line.script, f"lost {number} no-reply withheld OUT 0:5:30")), f"{name}, late: it isn't told: {line.script.lines}")
         line.until(lambda: False, 1)
         asks(line.outs() == [], f"{name}, late: the order goes out: {line.outs()}")
 
@@ -145,7 +144,7 @@ def quiet_panel(name, before, after, number):
     with Panel(name, before, after) as line:
         with stopped(line.script):
             pass
-        asks(line.until(tells(line.script, "stood still")), f"{name}, quiet: it isn't told: {line.script.lines}")
+        line.until(lambda: False, 0.5)  # what is typed before the panel looks for lines again may be older
         line.script.say(f"{number} OUT 0:5:30")
         asks(line.until(tells(line.script, f"settled {number} OUT 0:5:30 = ACK")), f"{name}, quiet: no order is done: {line.script.lines}")
         asks(not tells(line.script, "lost")(), f"{name}, quiet: the session is lost: {line.script.lines}")

@@ -57,7 +57,7 @@ TESTS = {
 @dataclass(frozen=True)
 class Option:
     """An option: what follows it, none where nothing does; of which commands it is; the span of its number;
-    and whether a file follows it."""
+    whether a file follows it; and whether `never` may follow in the place of a number."""
 
     name: str
     value: str | None
@@ -65,8 +65,11 @@ class Option:
     text: str
     span: tuple[int, int] | None = None
     is_file: bool = False
+    is_never: bool = False
 
     def reads(self, word):
+        if self.is_never and word == "never":
+            return None
         return number(word, self.name, *self.span) if self.span else word
 
     def row(self, indent=25):
@@ -95,12 +98,20 @@ OPTIONS = (
     ),
     Option("--new", None, RUNS, "with --keep: makes that store, where there is none"),
     Option(
+        "--until",
+        "MS",
+        ("panel",),
+        "of panel: how long an order may go out after it was typed, or never too late: 5000",
+        (100, 3600000),
+        is_never=True,
+    ),
+    Option(
         "--late",
         "MS",
-        RUNS,
+        ("reader",),
         (
-            "of panel and reader: a packet later than this isn't written, and what came while it stood still"
-            " so long is dropped: 5000"
+            "of reader: an answer later than this isn't written, and what came while it stood still so long"
+            " is dropped: 5000"
         ),
         (100, 60000),
     ),

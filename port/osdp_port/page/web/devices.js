@@ -145,7 +145,8 @@ function cardItem(each) {
   const formats = each.formats.map((found) => text(found.format === "H10302" ? "cards.format.alone" : "cards.format", found.format, masked(found.facility), masked(found.number)));
   const lines = isCard ? [...(formats.length ? formats : [text("cards.unknown")]), text("cards.digits", masked(each.digits)), ...(each.bits || hidden ? [text("cards.bits", masked(each.bits))] : [])] : [masked(each.digits)];
   return made("li", {}, made("div", { className: "head" }, made("strong", { textContent: head }), made("span", { className: "small", textContent: clock(each.at) })),
-    ...lines.map((words) => made("div", { textContent: words })), each.again ? made("small", { textContent: text("cards.again") }) : null);
+    ...lines.map((words) => made("div", { textContent: words })), each.again ? made("small", { textContent: text("cards.again") }) : null,
+    each.age ? made("small", { textContent: text("cards.age", each.age) }) : null);
 }
 
 export function drawCards(cards, isRevealed) {
