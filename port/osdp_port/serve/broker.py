@@ -41,7 +41,7 @@ class Broker:
     def __init__(self, settings, owner, will, subscriptions, clock, say, hears):
         self.settings, self.clock, self.say, self.hears = settings, clock, say, hears
         self.name, self.will, self.subscriptions = f"osdp-{settings.line}-{owner}", will, subscriptions
-        self.pulse_topic = None
+        self.pulse = None  # gives the topic and the payload of a pulse
         self.client = self.attempt = None
         self.is_open = False
         self.fresh = self.pulsed = self.tries_at = 0
@@ -178,7 +178,8 @@ class Broker:
     def sends_pulse(self):
         """A message of the service to itself: what comes after its confirmation was sent after this moment."""
         self.pulsed = self.clock()
-        info = self.client.publish(self.pulse_topic, b"{\"version\":1}", qos=1)
+        topic, payload = self.pulse()
+        info = self.client.publish(topic, payload, qos=1, retain=True)
         self.pulses[info.mid] = self.pulsed
 
     def on_publish(self, _, __, mid):

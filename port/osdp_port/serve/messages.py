@@ -14,7 +14,8 @@ KEY = re.compile(r"[A-Za-z0-9._:-]{1,64}")
 COMMAND = re.compile(r"[ -~]{1,256}")
 SET_UP = ("move", "rate", "comset", "accept")  # words of orders that are given at the line alone
 STEADY = ("led", "on", "off", "text")  # words of states that hold until the next one
-MOST_STATES, MOST_ASKED = 32, 1000
+PULSE = re.compile(r"[0-9a-f-]{1,36}:[0-9]{1,15}")
+MOST_STATES, MOST_ASKED, MOST_SECONDS = 32, 1000, 86400
 
 
 class Rejected(Exception):
@@ -72,11 +73,16 @@ def text_of(command, place, key, steady=False):
 
 
 def order_of(payload, place):
-    """The key of an order, and the text of its command."""
+    """The key of an order, the text of its command, and what it says of its time: none, or a pulse and seconds."""
     found, key = read(payload)
     if key is None:
         raise Rejected("key: 1 to 64 letters, digits, ., _, : and -")
-    return key, text_of(found.get("command"), place, key)
+    pulse, within = found.get("pulse"), found.get("within")
+    if (pulse is None) != (within is None) or pulse is not None and not (
+        isinstance(pulse, str) and PULSE.fullmatch(pulse) and type(within) is int and 0 <= within <= MOST_SECONDS
+    ):
+        raise Rejected("pulse and within go together: the last pulse, and seconds from there", key)
+    return key, text_of(found.get("command"), place, key), (pulse, within) if pulse else None
 
 
 def wanted_of(payload, place):

@@ -55,9 +55,9 @@ class Orders:
 
     # messages
 
-    def takes(self, entry, key, text, expiry, fresh):
-        """Takes an order of a message, which the broker has sent after a moment with so many seconds left. What is stored
-        of its key by another message is the same order, or refused."""
+    def takes(self, entry, key, text, expiry, fresh, until=None):
+        """Takes an order of a message, which the broker has sent after a moment with so many seconds left. It
+        may say by itself until when. The same key is the same order, or refused."""
         stored = self.ledger.key(key)
         if stored is not None:
             if (stored.device, stored.text) != (entry.name, text):
@@ -73,7 +73,8 @@ class Orders:
         if len(device.waiting) >= MOST:
             raise Rejected(f"{MOST} orders wait already", key)
         self.ledger.accepts(key, entry.name, text)
-        device.waiting.append(Waiting(text, key, fresh + SECOND * (expiry - 1)))
+        by_broker = fresh + SECOND * (expiry - 1)
+        device.waiting.append(Waiting(text, key, by_broker if until is None else min(by_broker, until)))
 
     def wants(self, entry, texts):
         """A device is to have these states."""

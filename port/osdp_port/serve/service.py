@@ -3,7 +3,7 @@ import os
 
 from ..cards import shown as shown_card
 from ..faults import FAILED, Stop, shown
-from . import messages
+from . import messages, pulses
 from .broker import Broker
 from .events import Events
 from .figures import Figures
@@ -36,7 +36,7 @@ class Service:
         self.presented = None  # the presence as it was published last
         will = (self.topics.of_line("presence"), written(**self.presence(False)))
         self.broker = Broker(settings, ledger.owner, will, self.subscriptions(), clock, say, self)
-        self.broker.pulse_topic = self.topics.of_line("pulse")
+        self.broker.pulse = lambda: (self.topics.of_line("pulse"), written(pulse=pulses.told()))
         port.taps.append(self.figures)
         self.line = self.orders.line = Line(port, program, devices, clock, say, kept, self)
 
@@ -61,7 +61,8 @@ class Service:
         self.outbox.again()
         self.has_claimed, self.is_claiming = False, True
         # once this is confirmed the broker has told what it retains of the presence
-        self.broker.publishes(self.topics.of_line("pulse"), written(), self.claims)
+        topic, payload = self.broker.pulse()
+        self.broker.publishes(topic, payload, self.claims, retain=True)
 
     def disconnected(self):
         self.has_claimed = self.is_claiming = False
@@ -88,10 +89,10 @@ class Service:
             self.rejects(name, rejected)
 
     def takes_order(self, entry, payload, is_retained, expiry, fresh):
-        key, text = messages.order_of(payload, entry.place)
+        key, text, since = messages.order_of(payload, entry.place)
         if is_retained:
             raise Rejected("it was retained", key)
-        self.orders.takes(entry, key, text, expiry, fresh)
+        self.orders.takes(entry, key, text, expiry, fresh, pulses.until(since, key, self.clock()))
 
     def rejects(self, name, rejected):
         self.say(f"rejected {name} {rejected.key or '-'}: {shown(rejected.why)}")
