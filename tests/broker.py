@@ -11,6 +11,7 @@ import argparse
 import json
 import os
 import random
+import re
 import signal
 import socket
 import subprocess
@@ -29,8 +30,11 @@ from paho.mqtt.properties import Properties
 TOP = Path(__file__).resolve().parent.parent
 sys.dont_write_bytecode = True
 FORM = jsonschema.Draft202012Validator(json.loads((TOP / "docs/broker.schema.json").read_text()))
+# a fault by which it is found that a rule is left out
+FOUND = {"dedupe": "moved [0-9]+ times$", "expiry": "after its time$", "store": "moved [0-9]+ times$|has several outcomes"}
 LINES, DEVICES = ("north", "south"), 3
 DEVICE_LATE = 1000  # so late our devices may act, in milliseconds
+KINDS = ("kills broker", "stops broker", "kills service", "kills service", "stops service", "kills line", "stops line", "restarts", "pulls", "fills")
 SETTLES = 60.0  # so many seconds all has to come to its end once nothing fails any more
 END_OF_KEY = 4000  # so many milliseconds after its time a key that isn't known stays so
 
@@ -136,6 +140,7 @@ class Key:
         self.command = f"OUT {number % 8}:5:{1 + number // 8}"
         self.time, self.at = moment() + 1000 * seconds, at
         self.outcomes, self.is_unknown, self.was_known, self.sends = {}, False, False, 0
+        self.more = number % 3  # how often it is sent once more although its outcome is there
 
     @property
     def topic(self):
@@ -143,6 +148,15 @@ class Key:
 
     def is_over(self):
         return bool(self.outcomes) or self.is_unknown
+
+    def is_to_be_sent(self, now):
+        """Whether its message is due."""
+        if now < self.at:
+            return False
+        if not self.is_over():
+            return True
+        self.more -= 1
+        return self.more >= 0 and now < self.time
 
 
 class Building:
@@ -205,7 +219,7 @@ class Building:
         """Something fails, at random."""
         line, pause = self.random.choice(LINES), self.random.randint(200, 2000)
         stop = self.random.randint(3000, 1000 * self.words.longest)
-        name = self.random.choice(["kills broker", "stops broker", "kills service", "kills service", "stops service", "kills line", "stops line", "restarts", "pulls", "fills"])
+        name = self.random.choice(self.words.kinds.split(",") if self.words.kinds else KINDS)
         self.did[name] += 1
         if name == "kills broker":
             self.broker.kills(pause)
@@ -355,7 +369,7 @@ class Building:
             if now >= next_gap:
                 self.asks_for_gaps()
                 next_gap = now + 5000
-            for key in [key for key in self.keys.values() if not key.is_over() and now >= key.at]:
+            for key in [key for key in self.keys.values() if key.is_to_be_sent(now)]:
                 self.sends(key)
             time.sleep(0.01)
         return self.comes_to_end()
@@ -368,7 +382,7 @@ class Building:
         while time.monotonic() < end:
             self.looks()
             now = moment()
-            for key in [key for key in self.keys.values() if not key.is_over() and now >= key.at]:
+            for key in [key for key in self.keys.values() if key.is_to_be_sent(now)]:
                 self.sends(key)
             if now >= next_gap:
                 self.asks_for_gaps()
@@ -466,7 +480,8 @@ def main():
     parser.add_argument("osdp")
     for name, value in (("--seed", 1), ("--orders", 120), ("--cards", 120), ("--longest", 5), ("--pause", 250), ("--faults", 2500)):
         parser.add_argument(name, type=int, default=value)
-    parser.add_argument("--wrong", choices=("dedupe", "expiry", "store"))
+    parser.add_argument("--wrong", choices=list(FOUND))
+    parser.add_argument("--kinds", help="what fails, as kills service,stops line")
     parser.add_argument("--keep", help="a folder for what is left")
     words = parser.parse_args()
     words.osdp = str(Path(words.osdp).resolve())
@@ -493,8 +508,9 @@ def tells(building, words, seconds):
           f"{building.marked_count} marked, {building.twice} twice; rejected {dict(building.rejected)}")
     print("failed: " + ", ".join(f"{name} {count}" for name, count in sorted(building.did.items())))
     if words.wrong:
-        print(f"without {words.wrong}: {len(building.faults)} faults, as {building.faults[:2]}")
-        return 0 if building.faults else 1
+        found = [fault for fault in building.faults if re.search(FOUND[words.wrong], fault)]
+        print(f"without {words.wrong}: {len(found)} faults, as {found[:2]}" if found else f"broker: without {words.wrong} nothing is found; {building.faults[:5]}")
+        return 0 if found else 1
     for fault in building.faults[:20]:
         print(f"broker: {fault}")
     return 1 if building.faults else 0

@@ -5,7 +5,6 @@ submitted as a session was lost, or as the service ended, isn't known: it is in 
 its outputs."""
 from collections import deque
 
-from ..orders import FAULTS
 from ..reports import reason
 from .messages import Rejected
 
@@ -109,9 +108,9 @@ class Orders:
             self.ledger.goes_to(order.key, "submitted")
         if order.text == STATE and order.key is None:
             order.settles = tuple(device.doubts)
-        why = self.line.gives(device.entry, order.text, order)
-        if why is not None and order.key:
-            self.ends(order.key, "refused", FAULTS.get(why, why))
+        why = self.line.gives(device.entry, order.text, order.until, order)
+        if why and order.key:
+            self.ends(order.key, "refused", why)
 
     def next_moment(self):
         """When an order that waits is over."""

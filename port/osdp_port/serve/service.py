@@ -172,10 +172,11 @@ class Service:
     def closed(self, entry):
         self.figures.lost(entry.name)
 
-    def ended(self, owner, how, words):
-        self.orders.ended(owner, how, words)
+    def ended(self, order, how, words):
+        self.orders.ended(order, how, words)
 
-    def event(self, entry, text, is_marked, age=0):
+    def event(self, entry, text, is_marked, since):
+        age = 0 if since is None else max(0, self.clock() - since)
         number, is_marked = self.events.reports(entry, text, is_marked, age)
         words = text.split()
         said = words[0] if self.events.secret else f"{text}{shown_card(words)}"
@@ -238,6 +239,7 @@ class Service:
         self.line.turn(read, [], now, stood_still)
         self.ledger.commit()
         self.line.goes_out()
+        self.ledger.commit()  # what is told as the packet goes out
         self.goes_out()
 
     def goes_out(self):

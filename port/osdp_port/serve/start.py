@@ -3,13 +3,13 @@ import os
 
 from ..devices import first_rate, new_devices
 from ..faults import BAD_WORDS, FAILED, NO_PROGRAM, Stop
-from ..keep import PanelPlaces
 from ..panel import SETTINGS
 from ..program import Lines
 from ..serial_port import Port, has_rate
 from ..store import StoreError
 from . import settings as configuration
 from .ledger import Ledger
+from .line import LinePlaces
 from .loop import Loop
 from .systemd import Manager
 
@@ -56,8 +56,9 @@ def check(settings, console):
 
 
 def makes_store(settings, console):
-    kept = PanelPlaces(settings.store, settings.port, True)
+    kept = LinePlaces(settings.store, settings.port, True)
     kept.read()
+    kept.begins()
     kept.close()
     console.say(f"made {settings.store}")
     return 0
@@ -80,7 +81,7 @@ def serve(words, console, osdp, moment):
 def served(settings, console, osdp, moment):
     from .service import Service
 
-    kept = PanelPlaces(settings.store, settings.port)
+    kept = LinePlaces(settings.store, settings.port)
     devices = new_devices(list(settings.devices.values()), settings.rate, kept)
     ledger = Ledger(kept.store, settings.orders_keys)
     port = Port(settings.port, first_rate(devices, settings.rate), console.say)
