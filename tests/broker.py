@@ -34,7 +34,7 @@ FORM = jsonschema.Draft202012Validator(json.loads((TOP / "docs/broker.schema.jso
 FOUND = {"dedupe": "moved [0-9]+ times$", "expiry": "after its time$", "store": "moved [0-9]+ times$|has several outcomes"}
 LINES, DEVICES = ("north", "south"), 3
 DEVICE_LATE = 1000  # so late our devices may act, in milliseconds
-KINDS = ("kills broker", "stops broker", "kills service", "kills service", "stops service", "kills line", "stops line", "restarts", "pulls", "fills")
+KINDS = ("kills broker", "stops broker", "kills service", "ends service", "stops service", "kills line", "stops line", "restarts", "pulls", "fills")
 SETTLES = 60.0  # so many seconds all has to come to its end once nothing fails any more
 END_OF_KEY = 4000  # so many milliseconds after its time a key that isn't known stays so
 
@@ -67,6 +67,11 @@ class Process:
             self.process.wait()
             self.process = None
         self.stopped_until = None
+
+    def ends(self):
+        """Ends it as a service manager does. It says goodbye, and is started again."""
+        if self.process and self.stopped_until is None:
+            self.process.send_signal(signal.SIGTERM)
 
     def stops(self, pause):
         if self.process and self.stopped_until is None:
@@ -227,6 +232,8 @@ class Building:
             self.broker.stops(stop)
         elif name == "kills service":
             self.service[line].kills(pause)
+        elif name == "ends service":
+            self.service[line].ends()
         elif name == "stops service":
             self.service[line].stops(stop)
         elif name == "kills line":

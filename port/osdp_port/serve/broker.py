@@ -11,13 +11,15 @@ from paho.mqtt.packettypes import PacketTypes
 from paho.mqtt.properties import Properties
 from paho.mqtt.subscribeoptions import SubscribeOptions
 
-from ..faults import shown
+from ..faults import Stop, shown
+from ..store import StoreError
 from .settings import first_line
 
 KEEP_ALIVE = 10  # seconds
 PULSE = 1000  # so many milliseconds lie between two pulses
 OLDEST = 5000  # a message may lie this many milliseconds behind a pulse
 SILENT = 6000  # a broker that confirms no pulse for so long is dropped, in milliseconds
+ANSWERS = 2500  # .. and for so long it is given no outcome and no event, which would lie there
 LONGEST = 30000  # between two attempts
 MOST = 50  # messages that are read in a turn
 IN_FLIGHT = 20  # messages that the broker hasn't confirmed, at most, as brokers allow that
@@ -161,6 +163,8 @@ class Broker:
                 self.client.loop_read()
             except Dropped as dropped:
                 self.drops(str(dropped))
+            except (Stop, StoreError):
+                raise
             except Exception as error:  # a broker that sends what is no packet of MQTT
                 self.drops(f"{type(error).__name__}: {error}")
 
@@ -202,6 +206,10 @@ class Broker:
         client.loop_misc()
         if self.client is client and client.want_write():
             client.loop_write()
+
+    def is_answering(self):
+        """Whether it has confirmed a pulse lately."""
+        return self.is_open and self.clock() - self.fresh <= ANSWERS
 
     def number(self):
         """The descriptor to wait on; none where there is none."""

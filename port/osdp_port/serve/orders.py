@@ -139,8 +139,9 @@ class Orders:
             self.ends(order.key, "refused" if is_refused else "settled", why)
         elif how == "expired":
             self.ends(order.key, "expired")
-        elif how == "withdrawn":
-            self.ends(order.key, "forgotten")
+        elif how == "withdrawn":  # it was never sent, and waits on
+            self.ledger.goes_to(order.key, "waiting")
+            self.device_of(order.key).waiting.appendleft(order)
         else:  # lost, or an answer that can't be read
             self.doubts(self.device_of(order.key), order.key)
 

@@ -109,11 +109,12 @@ class Service:
             if stored.outcome is not None:
                 self.outbox.adds(asked.key)
             return
-        found = self.ledger.events(entry.name, asked.first, asked.last)
+        last = min(asked.last, self.ledger.last_number(entry.name))
+        found = self.ledger.events(entry.name, asked.first, last)
         for event in found:
             self.outbox.adds((event.device, event.number, "asked"))
-        if len(found) < asked.last - asked.first + 1:
-            raise Rejected(f"of the events {asked.first} to {asked.last} {len(found)} are kept")
+        if len(found) < last - asked.first + 1:
+            raise Rejected(f"of the events {asked.first} to {last} {len(found)} are kept")
 
     # whose line it is
 
@@ -247,7 +248,7 @@ class Service:
         self.tells_presence()
         self.tells_figures()
         self.looks_back()
-        if self.has_claimed:
+        if self.has_claimed and self.broker.is_answering():
             self.outbox.goes_out()
         self.broker.writes()
 
