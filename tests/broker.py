@@ -237,6 +237,7 @@ class Building:
         elif name == "stops service":
             self.service[line].stops(stop)
         elif name == "kills line":
+            (self.work / f"{line}.port").unlink(missing_ok=True)  # else another program may get a terminal of that name
             self.line[line].kills(pause)
         elif name == "stops line":
             self.line[line].stops(stop)
@@ -396,7 +397,7 @@ class Building:
                 next_gap = now + 2000
             if sum(map(len, self.events.values())) != count:
                 count, quiet = sum(map(len, self.events.values())), now
-            if all(key.is_over() for key in self.keys.values()) and now > quiet + 9000:
+            if all(key.is_over() for key in self.keys.values()) and now > quiet + 6000 and self.have_come():
                 return True
             time.sleep(0.02)
         return False
@@ -447,6 +448,20 @@ class Building:
             self.asks(least <= acted <= most, f"{key.key} is {message['outcome']}, and its relay moved {acted} times")
         self.asks(key.outcomes or acted == 0, f"{key.key} isn't known, and its relay moved")
 
+    def runs(self, line, address):
+        """The cards that each run of a device has taken."""
+        runs = []
+        for words in self.log(line):
+            if words[0] == "begun" and int(words[1]) == address:
+                runs.append([])
+            if words[0] == "shown" and int(words[1]) == address:
+                runs[-1].append(words[3])
+        return runs
+
+    def have_come(self):
+        """Whether each card of the devices as they are now has come."""
+        return all({message["card"] for message in self.events[line, 5 + at].values()} >= set(self.runs(line, 5 + at)[-1]) for line in LINES for at in range(DEVICES))
+
     def judges_events(self, line, address):
         found = self.events[line, address]
         asked = sorted(found)
@@ -466,12 +481,7 @@ class Building:
 
     def judges_runs(self, line, address, came, seen):
         """Cards come in their order. Of each run of a device all come, but the last ones of one that lost power."""
-        runs = []
-        for words in self.log(line):
-            if words[0] == "begun" and int(words[1]) == address:
-                runs.append([])
-            if words[0] == "shown" and int(words[1]) == address:
-                runs[-1].append(words[3])
+        runs = self.runs(line, address)
         order = [card for run in runs for card in run if card in seen]
         self.asks(order == came, f"the cards of {line} {address} come in another order: {came}")
         for at, run in enumerate(runs):

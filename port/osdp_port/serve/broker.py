@@ -20,7 +20,7 @@ PULSE = 1000  # so many milliseconds lie between two pulses
 OLDEST = 5000  # a message may lie this many milliseconds behind a pulse
 SILENT = 6000  # a broker that confirms no pulse for so long is dropped, in milliseconds
 ANSWERS = 2500  # .. and for so long it is given no outcome and no event, which would lie there
-LONGEST = 30000  # between two attempts
+LONGEST = 5000  # milliseconds between two attempts, at most
 MOST = 50  # messages that are read in a turn
 IN_FLIGHT = 20  # messages that the broker hasn't confirmed, at most, as brokers allow that
 
