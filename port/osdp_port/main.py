@@ -201,6 +201,15 @@ def page(words, console, osdp):
     return shows(words, console, osdp, moment, goes_on)
 
 
+def serve(words, console, osdp):
+    """Runs a line as a service. The status."""
+    try:
+        from .serve.start import serve as serves
+    except ModuleNotFoundError:
+        raise Stop("the service isn't there: call  sudo apt-get install osdp-service", NO_PROGRAM) from None
+    return serves(words, console, osdp, moment)
+
+
 def tests(words, port, console, osdp):
     return TESTS[words.rest[0]](words, port, console, osdp)
 
@@ -214,6 +223,7 @@ STARTS = {
     "find": on_port(find.find, False),
     "test": on_port(tests, False),
     "page": page,
+    "serve": serve,
 }
 
 

@@ -121,23 +121,30 @@ class Orders:
     def submit(self, device, text, since=None):
         """Hands an order to `osdp`, which was typed at a moment, or is given now: from then on it may go out
         for a while. Whether it was taken."""
-        panel, places = self.panel, list(device.places)
+        panel = self.panel
         until = None if panel.lasts is None else (panel.now if since is None else since) + panel.lasts
+        why = self.refusal(device, text, until)
+        if why:
+            self.say(f"not taken {device.address} {text}: {why}")
+        return not why
+
+    def refusal(self, device, text, until):
+        """Hands an order to `osdp`, with its last moment. Why it wasn't taken; nothing where it was."""
+        panel, places = self.panel, list(device.places)
         why = self.not_stored(device, text, until)
         if not why:
             device.given = text
             told = panel.call(f"submit {device.number} {'never' if until is None else until} {text}")
             refusals = [each.split()[1] for each in told if each.startswith("refused ")]
             if not refusals:
-                return True
+                return ""
             why = FAULTS.get(refusals[0], refusals[0])
             if panel.kept:
                 panel.is_kept(panel.kept.forgets(device.name, device.next_order))
         if device.places != places:
             device.places = places
             panel.keep()
-        self.say(f"not taken {device.address} {text}: {why}")
-        return False
+        return why
 
     def not_stored(self, device, text, until):
         """Stores what a restart is to know of an order, before it is given: the new place of a COMSET, and
