@@ -10,6 +10,7 @@ ghost use Rattle.osdp_programs_ledger.specs.OwnOrder.{AnyProgramsKeep, OwnProgra
 ghost use Rattle.osdp_programs_ledger.specs.Programs.{ProgramsHoldOnce, RuledProgramsHoldOnce};
 
 use osdp_device::{DeviceStatus, ProgramAnswers};
+use osdp_reader::Handler;
 
 /// **The theorem.** An `osdp_panel::Panel` and devices of `osdp_device::Device` are called in any way, where these calls keep the premises: orders of any last moment, late and
 /// held ones, `retarget`, losses of power of either side, and entries that are added in use. Our entries stand in any order, with entries of others between them, and a panel that is made anew may leave some out. Then of each of our devices,
