@@ -1,14 +1,19 @@
 -- What is written, read and sent is one thing.
-use Rattle.osdp_c.proofs.Common.{◌≡◌, ◌∙◌, ℕ, Bool, true, false, List, Option, Some, None, Result, Ok, Err, refl, sym, ap, subst, arith, CommandsAreReadOnce, CommandsHaveOneAnswer, DeadlinesAreTold, EventsAreReadOnce, OneBurstGoesOut, RepliesHaveOneAnswer, RepliesTellOneEvent, moment_in, Status, Done, TooSmall, IsSentIf, IsSentIn, number, MsgFault}
-use Rattle.osdp_bus.specs.Deadlines.{IsDeadline}
+use Rattle.osdp_c.proofs.Common.{◌≡◌, ◌∙◌, ℕ, Bool, true, false, List, [], Option, Some, None, Result, Ok, Err, refl, sym, ap, subst, arith, inl, inr, CommandsAreReadOnce, CommandsHaveOneAnswer, DeadlinesAreTold, EventsAreReadOnce, GivesOneBurst, OneBurstGoesOut, RepliesHaveOneAnswer, RepliesTellOneEvent, moment_in, Status, Done, TooSmall, number, MsgFault}
+use Rattle.std.proofs.lemmas.Bool.{le-ltb, lt-ltb}
+use Rattle.std.specs.Prelude.{◌≤◌, ◌<◌, if◌then◌else◌, is_some, max}
+use Rattle.osdp_c_values.specs.declared.machine.PanelMachine.{PanelMachine}
+use Rattle.osdp_c_values.specs.Panels.{ticked, turn_with, writes_burst}
+use Rattle.osdp_panel.specs.Deadlines.{IsDeadline}
+use Rattle.osdp_panel.specs.Orders.{PanelState, brings}
+use Rattle.osdp_panel.specs.Sending.{holds_back, rests, sends, sends_of, sent_at, written_by}
 use Rattle.osdp_bus.specs.Ticking.{bus_ticks}
 use Rattle.osdp_c_values.specs.declared.arrays.BurstStruct.{BurstStruct}
-use Rattle.osdp_c_values.specs.Clocks.{accepts}
 use Rattle.osdp_c_values.specs.Moments.{moment_struct}
-use Rattle.osdp_c_values.specs.Structs.{burst_of}
+use Rattle.osdp_c_values.specs.Structs.{burst_of, flag}
 use Rattle.osdp_c_values.specs.Texts.{IsTold, TextEnds}
-use Rattle.osdp_frame.proofs.Spelled.{spelled_is}
 use Rattle.osdp_frame.specs.Packet.{Packet}
+use Rattle.osdp_frame.specs.Spelling.{spelling}
 use Rattle.osdp_msg.specs.CommandTable.{command_of}
 use Rattle.osdp_msg.specs.CommandText.{command_text}
 use Rattle.osdp_msg.specs.declared.command.Command.{Command}
@@ -73,24 +78,60 @@ one_event_told (Ok reply) (Err s) (Err t) h g = ap (λ (x : Status). Err x) (h.0
 
 -- ---- what goes out
 
-sent_once : (sent : Option Packet) (out a b : BurstStruct) → IsSentIn sent out a → IsSentIn sent out b → a ≡ b
-sent_once None out a b h g = h ∙ sym g
-sent_once (Some p) out a b h g = h.2 ∙ ap (λ bytes. burst_of bytes out) (spelled_is p h.0 h.1 ∙ sym (spelled_is p g.0 g.1)) ∙ sym g.2
+abbrev IsSent : Option Packet → Type 0
+IsSent sent = (packet : Packet) × (sent ≡ Some packet)
 
-sent_if_once : (t : Bool) (sent : Option Packet) (out a b : BurstStruct) → IsSentIf t sent out a → IsSentIf t sent out b → a ≡ b
-sent_if_once false sent out a b h g = h ∙ sym g
-sent_if_once true sent out a b h g = sent_once sent out a b h g
+sent_of : (sent : Option Packet) (q : PanelState) (until : ℕ) → (sends (is_some sent) q).last ≡ Some until → IsSent sent
+sent_of (Some packet) q until is = (packet, refl)
+sent_of None q until is = absurd cc
+
+-- a panel that has a burst to give has sent a packet
+sent_unless : (held : Bool) (now until : ℕ) (p : PanelState)
+    → (if held then rests now p else sends_of (bus_ticks now p.bus) p).last ≡ Some until → IsSent (if held then None else (bus_ticks now p.bus).sent)
+sent_unless true now until p is = absurd cc
+sent_unless false now until p is = sent_of (bus_ticks now p.bus).sent (record (brings (bus_ticks now p.bus).bus p) { brought = false }) until is
+
+module _ (now later : ℕ) (m : PanelMachine) (sends : ℕ) (out : BurstStruct) where
+  abbrev at : ℕ
+  at = max (ticked now m).panel.bus.greatest later
+
+  abbrev given : Bool → BurstStruct
+  given late = burst_of (if late then [] else (ticked now m).turn) out
+
+  in_time : (packet : Packet) (until : ℕ) → sent_at now m.panel ≡ Some packet → (ticked now m).panel.last ≡ Some until → at ≤ until
+      → writes_burst later (ticked now m) out ≡ burst_of (spelling packet) out
+  in_time packet until sent last before =
+      ap (λ l. burst_of (written_by l at (ticked now m).turn) out) last
+      ∙ ap given (le-ltb until at before)
+      ∙ ap (λ s. burst_of (turn_with s m.turn) out) sent
+
+  too_late : (until : ℕ) → (ticked now m).panel.last ≡ Some until → until < at → writes_burst later (ticked now m) out ≡ burst_of [] out
+  too_late until last after =
+      ap (λ l. burst_of (written_by l at (ticked now m).turn) out) last ∙ ap given (lt-ltb until at after)
+
+  by_last : (last : Option ℕ) → (ticked now m).panel.last ≡ last → GivesOneBurst now later m sends out
+  by_last None is = record {
+    none = λ zero. ap (λ l. burst_of (written_by l at (ticked now m).turn) out) is;
+    one = λ told. absurd (let e : 0 ≡ 1 = sym (ap (λ l. flag (is_some l)) is) ∙ told in omega (arith, e));
+    either = inl (ap (λ l. flag (is_some l)) is);
+  }
+  by_last (Some until) is =
+      let sent = sent_unless (holds_back now m.panel) now until m.panel is in
+      record {
+        none = λ told. absurd (let e : 1 ≡ 0 = sym (ap (λ l. flag (is_some l)) is) ∙ told in omega (arith, e));
+        one = λ told. (sent.0, until, sent.1, is, (λ before. in_time sent.0 until sent.1 is before), (λ after. too_late until is after));
+        either = inr (ap (λ l. flag (is_some l)) is);
+      }
 
 pub one_burst : OneBurstGoesOut
-one_burst now None out a b h g = h ∙ sym g
-one_burst now (Some m) out a b h g = sent_if_once (accepts now m.clock) (bus_ticks now m.bus).sent out a b h g
+one_burst now later m sends out = by_last now later m sends out (ticked now m).panel.last refl
 
 -- ---- deadlines
 
 pub deadlines_are_told : DeadlinesAreTold
 deadlines_are_told None before after h = h
-deadlines_are_told (Some m) before after h = subst (λ s. IsDeadline m.bus (moment_in s)) (sym h.2) (again h.0 h.1)
+deadlines_are_told (Some m) before after h = subst (λ s. IsDeadline m.panel (moment_in s)) (sym h.2) (again h.0 h.1)
   where
-    again : (due : Option ℕ) → IsDeadline m.bus due → IsDeadline m.bus (moment_in (moment_struct due))
+    again : (due : Option ℕ) → IsDeadline m.panel due → IsDeadline m.panel (moment_in (moment_struct due))
     again None is = is
     again (Some moment) is = is

@@ -1,6 +1,9 @@
 -- Each call for C comes to one thing, but where memory is out.
-use Rattle.std.specs.Prelude.{◌≡◌, ◌≢◌, ◌⊎◌, ℕ, ◌==◌, true, false, List, [], ◌∷◌, ◌++◌, if◌then◌else◌, Option, None, Some, Result}
-use Rattle.osdp_bus.specs.Deadlines.{IsDeadline}
+use Rattle.std.specs.Prelude.{◌≡◌, ◌≢◌, ◌⊎◌, ℕ, ◌≤◌, ◌<◌, ◌==◌, max, true, false, List, [], ◌∷◌, ◌++◌, if◌then◌else◌, Option, None, Some, Result}
+use Rattle.osdp_frame.specs.Packet.{Packet}
+use Rattle.osdp_frame.specs.Spelling.{spelling}
+use Rattle.osdp_panel.specs.Deadlines.{IsDeadline}
+use Rattle.osdp_panel.specs.Sending.{sent_at}
 use Rattle.osdp_c_values.specs.declared.arrays.BurstStruct.{BurstStruct}
 use Rattle.osdp_c_values.specs.declared.machine.PanelMachine.{PanelMachine}
 use Rattle.osdp_c_values.specs.declared.machine.ReaderMachine.{ReaderMachine}
@@ -8,8 +11,9 @@ use Rattle.osdp_c_values.specs.declared.moment.MomentStruct.{MomentStruct}
 use Rattle.osdp_c_values.specs.declared.settings.ReaderSettings.{ReaderSettings}
 use Rattle.osdp_c_values.specs.HeldMonitors.{HeldMonitor}
 use Rattle.osdp_c_values.specs.Monitors.{EventEndsIn, NewMonitorEnds}
-use Rattle.osdp_c_values.specs.Panels.{IsBurstIn, IsDueIn}
+use Rattle.osdp_c_values.specs.Panels.{IsDueIn, ticked, writes_burst, writes_sends}
 use Rattle.osdp_c_values.specs.Readers.{IsEventRead, NewReaderEnds, NewReaderWith}
+use Rattle.osdp_c_values.specs.Structs.{burst_of}
 use Rattle.osdp_c.specs.CommandTexts.{IsReadCommand, IsReadEvent}
 use Rattle.osdp_c.specs.Texts.{CommandTextAnswered, ReplyTextAnswered}
 use Rattle.osdp_msg.specs.declared.fault.MsgFault.{MsgFault}
@@ -46,8 +50,17 @@ EventsAreReadOnce = (text : List ℕ) → IsOne (IsReadEvent text)
 abbrev pub RepliesTellOneEvent : Type 0
 RepliesTellOneEvent = (read : Result Reply MsgFault) → IsOne (IsEventRead read)
 
+-- What a tick and the write after it give of this machine, whatever stood in the structs. Where the tick tells of a burst, it sends a packet, which has a last moment: up to that
+-- moment the write gives its bytes, whole, and after it none. Where it tells of none, the write gives none.
+pub record GivesOneBurst (now later : ℕ) (m : PanelMachine) (sends : ℕ) (out : BurstStruct) : Type 0 where
+  pub none : writes_sends now m sends ≡ 0 → writes_burst later (ticked now m) out ≡ burst_of [] out
+  pub one : writes_sends now m sends ≡ 1 → (packet : Packet) × (until : ℕ) × (sent_at now m.panel ≡ Some packet) × ((ticked now m).panel.last ≡ Some until)
+      × (max (ticked now m).panel.bus.greatest later ≤ until → writes_burst later (ticked now m) out ≡ burst_of (spelling packet) out)
+      × (until < max (ticked now m).panel.bus.greatest later → writes_burst later (ticked now m) out ≡ burst_of [] out)
+  pub either : (writes_sends now m sends ≡ 0) ⊎ (writes_sends now m sends ≡ 1)
+
 abbrev pub OneBurstGoesOut : Type 0
-OneBurstGoesOut = (now : ℕ) (m : Option PanelMachine) (before : BurstStruct) → IsOne (IsBurstIn now m before)
+OneBurstGoesOut = (now later : ℕ) (m : PanelMachine) (sends : ℕ) (out : BurstStruct) → GivesOneBurst now later m sends out
 
 -- ---- moments
 
@@ -58,7 +71,7 @@ moment_in s = if s.present == 0 then None else Some s.moment
 -- where there is a panel the struct tells its deadline, else it stays
 abbrev pub TellsDeadline : Option PanelMachine → MomentStruct → MomentStruct → Type 0
 TellsDeadline None before after = after ≡ before
-TellsDeadline (Some m) before after = IsDeadline m.bus (moment_in after)
+TellsDeadline (Some m) before after = IsDeadline m.panel (moment_in after)
 
 abbrev pub DeadlinesAreTold : Type 0
 DeadlinesAreTold = (m : Option PanelMachine) (before after : MomentStruct) → IsDueIn m before after → TellsDeadline m before after

@@ -15,7 +15,8 @@ pub fn messages_are_read_once()
     ensures replies { RepliesTellOneEvent }
 {}
 
-/// A tick of a panel writes one burst, and the moment that is written tells the panel's deadline. Without a panel what was there stays.
+/// A tick of a panel and the write after it give the bytes of one packet, whole, up to its last moment, and else none. The moment that is written tells the panel's deadline;
+/// without a panel what was there stays.
 pub fn panels_write_one_thing()
     ensures bursts { OneBurstGoesOut }
     ensures deadlines { DeadlinesAreTold }

@@ -1,25 +1,25 @@
 //! The calls of a panel, for C.
 
-ghost use Rattle.std.specs.Prelude.{◌≡◌, IfOk, Option, Some};
+ghost use Rattle.std.specs.Prelude.{◌≡◌, IfOk, IfSome, Option, Some, []};
 ghost use Rattle.std.specs.Result.{result_map_both};
+ghost use Rattle.osdp_frame.specs.Packet.{IsPacket};
 ghost use Rattle.osdp_msg.specs.declared.command.Command.{Command as Ordered};
 ghost use Rattle.osdp_c_values.specs.Settings.{bus_config_of, day, default_panel, limit_of};
 ghost use Rattle.osdp_c_values.specs.Clocks.{new_clock};
 ghost use Rattle.osdp_c_values.specs.Addresses.{device_address};
 ghost use Rattle.osdp_c_values.specs.Calls.{IsDone, calls, frees, writes};
 ghost use Rattle.osdp_c.specs.CommandTexts.{IsReadCommand};
-ghost use Rattle.osdp_c_values.specs.Panels.{AddsTo, IsBurstIn, IsDueIn, MadeAs, NewPanelEnds, NewPanelIn, NewPanelWith, at_moment, begins, does, falls_silent, hears, looks_at, of_bus, on_bus, reports, retargets, sets_moment, submits_data, submits_text, ticks, withdraws, writes_address, writes_closed, writes_entries, writes_report, writes_waiting, writes_withdrawn};
+ghost use Rattle.osdp_c_values.specs.Panels.{AddsTo, IsDueIn, MadeAs, NewPanelEnds, NewPanelIn, NewPanelWith, at_moment, begins, does, falls_silent, gives, hears, looks_at, looks_at_number, of_panel, on_panel, reports, retargets, sent_in, sets_moment, submits_data, submits_text, ticks, where_accepted, withdraws, writes_address, writes_burst, writes_closed, writes_entries, writes_next_number, writes_number_data, writes_number_text, writes_report, writes_sends, writes_waiting, writes_withdrawn};
 
 use crate::held::{freed, on_held, put_new};
 use crate::panel_calls;
 use crate::read::read_command;
-use osdp_bus::{Bus, BusConfig, BusFault, EntryNumber};
 use osdp_c_values::{
     BurstStruct, Clock, MessageStruct, MomentStruct, PanelHandle, PanelMachine, PanelSettings,
-    Place, ReportStruct, Status,
+    ReportStruct, Status,
 };
-use osdp_frame::Burst;
 use osdp_msg::Spelling;
+use osdp_panel::{BusConfig, BusFault, EntryNumber, Panel, Turn};
 use std::alloc::Global;
 
 /// Writes the default settings: those of a panel with a CRC, and room for 64 commands.
@@ -31,22 +31,23 @@ pub extern "C" fn osdp_panel_defaults(settings: &mut PanelSettings)
     settings.set_defaults();
 }
 
-/// A bus on the heap, which has seen no moment. It is put there without `?`, which would copy it on the stack.
+/// A panel on the heap, which has seen no moment. It is put there without `?`, which would copy it on the stack.
 fn new_machine(
     alloc: Global,
     settings: &PanelSettings,
     config: Option<BusConfig>,
 ) -> Result<Box<PanelMachine>, BusFault>
-    ensures panel { MadeAs config (result_map_both (λ m. m.value.bus) (λ fault. fault) result) }
+    ensures panel { MadeAs config (result_map_both (λ m. m.value.panel) (λ fault. fault) result) }
     ensures clock { IfOk result (λ m. m.value.clock ≡ new_clock (limit_of settings.now.clock_limit)) }
+    ensures turn { IfOk result (λ m. m.value.turn ≡ []) }
 {
     let Some(config) = config else {
         return Err(BusFault::OutOfRange);
     };
     let clock = Clock::new(settings.clock_limit());
-    let sent = Place::new(Burst::new());
-    match Bus::new(alloc, config) {
-        Ok(bus) => match Box::new(alloc, PanelMachine { bus, clock, sent }) {
+    let turn = Turn::new();
+    match Panel::new(alloc, config) {
+        Ok(panel) => match Box::new(alloc, PanelMachine { panel, clock, turn }) {
             Ok(machine) => Ok(machine),
             Err(_) => Err(BusFault::NoMemory),
         },
@@ -54,7 +55,7 @@ fn new_machine(
     }
 }
 
-/// Puts a panel of such settings of its bus into a handle.
+/// Puts a panel of such settings into a handle.
 fn make(
     alloc: Global,
     panel: &mut PanelHandle,
@@ -103,22 +104,23 @@ pub extern "C" fn osdp_panel_free(alloc: Global, panel: &mut PanelHandle) -> u32
     freed!(panel, alloc)
 }
 
-/// Adds a device at an address, and writes its number.
+/// Adds a device at an address, whose first order has the next number, and writes its entry.
 #[unsafe(no_mangle)]
 pub extern "C" fn osdp_panel_add(
     alloc: Global,
     panel: &mut PanelHandle,
     address: u32,
+    next_number: u64,
     entry: &mut usize,
 ) -> u32
-    ensures { AddsTo (device_address address) panel.old.slot.machine result panel.new.slot.machine entry.old entry.new }
+    ensures { AddsTo (device_address address) next_number panel.old.slot.machine result panel.new.slot.machine entry.old entry.new }
 {
     on_held!(
         panel,
         alloc,
-        |machine| match panel_calls::add(&mut machine, address) {
-            Ok(number) => {
-                *entry = number;
+        |machine| match panel_calls::add(&mut machine, address, next_number) {
+            Ok(added) => {
+                *entry = added;
                 Status::Done
             }
             Err(fault) => Status::Panel(fault),
@@ -134,7 +136,7 @@ pub extern "C" fn osdp_panel_begin(
     entry: EntryNumber,
     now: u64,
 ) -> u32
-    ensures { IsDone (calls (at_moment now (begins entry now)) panel.old.slot.machine) result panel.new.slot.machine }
+    ensures { IsDone (calls (at_moment now (on_panel (begins entry now))) panel.old.slot.machine) result panel.new.slot.machine }
 {
     on_held!(
         panel,
@@ -143,7 +145,7 @@ pub extern "C" fn osdp_panel_begin(
     )
 }
 
-/// Puts a command after those that wait for a device, by its code and data.
+/// Puts an order after those that wait for a device, by its code and data, and writes its number. It may be sent until a moment.
 #[unsafe(no_mangle)]
 pub extern "C" fn osdp_panel_submit_nonnull(
     alloc: Global,
@@ -151,33 +153,39 @@ pub extern "C" fn osdp_panel_submit_nonnull(
     entry: EntryNumber,
     code: u8,
     body: &[u8],
+    until: u64,
+    number: &mut u64,
 ) -> u32
-    ensures { IsDone (calls (on_bus (submits_data entry code body.now)) panel.old.slot.machine) result panel.new.slot.machine }
+    ensures panel { IsDone (calls (on_panel (submits_data entry code body.now until)) panel.old.slot.machine) result panel.new.slot.machine }
+    ensures written { number.new ≡ writes (of_panel (writes_number_data entry code body.now)) panel.old.slot.machine number.old }
 {
     on_held!(
         panel,
         alloc,
-        |machine| panel_calls::submit_data(&mut machine, entry, code, body)
+        |machine| panel_calls::submit_data(&mut machine, entry, code, body, until, number)
     )
 }
 
-/// Puts a command after those that wait for a device, by its text.
+/// The same by the command's text.
 #[unsafe(no_mangle)]
 pub extern "C" fn osdp_panel_submit_text_nonnull(
     alloc: Global,
     panel: &mut PanelHandle,
     entry: EntryNumber,
     text: &[u8],
+    until: u64,
+    number: &mut u64,
 ) -> u32
     ensures { (read : Option Ordered) × IsReadCommand text.now read
-        × IsDone (calls (on_bus (submits_text entry read)) panel.old.slot.machine) result panel.new.slot.machine }
+        × IsDone (calls (on_panel (submits_text entry read until)) panel.old.slot.machine) result panel.new.slot.machine
+        × (number.new ≡ writes (of_panel (writes_number_text entry read)) panel.old.slot.machine number.old) }
 {
     let mut place = Spelling::new();
     let read = read_command(text, &mut place);
     on_held!(
         panel,
         alloc,
-        |machine| panel_calls::submit_read(&mut machine, entry, &read)
+        |machine| panel_calls::submit_read(&mut machine, entry, &read, until, number)
     )
 }
 
@@ -189,8 +197,8 @@ pub extern "C" fn osdp_panel_withdraw(
     entry: EntryNumber,
     command: &mut MessageStruct,
 ) -> u32
-    ensures panel { IsDone (calls (on_bus (withdraws entry)) panel.old.slot.machine) result panel.new.slot.machine }
-    ensures written { command.new ≡ writes (of_bus (writes_withdrawn entry)) panel.old.slot.machine command.old }
+    ensures panel { IsDone (calls (on_panel (withdraws entry)) panel.old.slot.machine) result panel.new.slot.machine }
+    ensures written { command.new ≡ writes (of_panel (writes_withdrawn entry)) panel.old.slot.machine command.old }
 {
     on_held!(
         panel,
@@ -207,12 +215,12 @@ pub extern "C" fn osdp_panel_retarget(
     entry: EntryNumber,
     address: u32,
 ) -> u32
-    ensures { IsDone (calls (on_bus (retargets entry (device_address address))) panel.old.slot.machine) result panel.new.slot.machine }
+    ensures { IsDone (calls (on_panel (retargets entry (device_address address))) panel.old.slot.machine) result panel.new.slot.machine }
 {
     on_held!(
         panel,
         alloc,
-        |machine| panel_calls::retarget(&mut machine.bus, entry, address)
+        |machine| panel_calls::retarget(&mut machine, entry, address)
     )
 }
 
@@ -224,7 +232,7 @@ pub extern "C" fn osdp_panel_bytes_nonnull(
     bytes: &[u8],
     now: u64,
 ) -> u32
-    ensures { IsDone (calls (at_moment now (hears bytes.now now)) panel.old.slot.machine) result panel.new.slot.machine }
+    ensures { IsDone (calls (at_moment now (on_panel (hears bytes.now now))) panel.old.slot.machine) result panel.new.slot.machine }
 {
     on_held!(
         panel,
@@ -236,7 +244,7 @@ pub extern "C" fn osdp_panel_bytes_nonnull(
 /// The line was seen silent.
 #[unsafe(no_mangle)]
 pub extern "C" fn osdp_panel_silence(alloc: Global, panel: &mut PanelHandle, now: u64) -> u32
-    ensures { IsDone (calls (at_moment now (falls_silent now)) panel.old.slot.machine) result panel.new.slot.machine }
+    ensures { IsDone (calls (at_moment now (on_panel (falls_silent now))) panel.old.slot.machine) result panel.new.slot.machine }
 {
     on_held!(
         panel,
@@ -245,54 +253,72 @@ pub extern "C" fn osdp_panel_silence(alloc: Global, panel: &mut PanelHandle, now
     )
 }
 
-/// What is due at a moment: writes the burst to send.
+/// What is due at a moment: writes whether a burst is to go out, which `osdp_panel_write` gives.
 #[unsafe(no_mangle)]
 pub extern "C" fn osdp_panel_tick(
     alloc: Global,
     panel: &mut PanelHandle,
     now: u64,
-    burst: &mut BurstStruct,
+    sends: &mut u32,
 ) -> u32
     ensures panel { IsDone (calls (at_moment now (ticks now)) panel.old.slot.machine) result panel.new.slot.machine }
-    ensures written { IsBurstIn now panel.old.slot.machine burst.old burst.new }
+    ensures written { sends.new ≡ writes (where_accepted now (writes_sends now)) panel.old.slot.machine sends.old }
+    ensures packet { IfSome (sent_in now panel.old.slot.machine) IsPacket }
 {
     on_held!(
         panel,
         alloc,
-        |machine| panel_calls::tick(&mut machine, now, burst)
+        |machine| panel_calls::tick(&mut machine, now, sends)
     )
 }
 
-/// Writes the moment at which `osdp_panel_tick` is to be called next.
+/// Writes the bytes that go out at a moment: those of the tick's burst, or none where the last moment of its order has passed.
+#[unsafe(no_mangle)]
+pub extern "C" fn osdp_panel_write(
+    alloc: Global,
+    panel: &mut PanelHandle,
+    now: u64,
+    burst: &mut BurstStruct,
+) -> u32
+    ensures panel { IsDone (calls (at_moment now (on_panel (gives now))) panel.old.slot.machine) result panel.new.slot.machine }
+    ensures written { burst.new ≡ writes (where_accepted now (writes_burst now)) panel.old.slot.machine burst.old }
+{
+    on_held!(
+        panel,
+        alloc,
+        |machine| panel_calls::write(&mut machine, now, burst)
+    )
+}
+
+/// Writes the moment of the next turn.
 #[unsafe(no_mangle)]
 pub extern "C" fn osdp_panel_next_deadline(
     alloc: Global,
     panel: &mut PanelHandle,
     deadline: &mut MomentStruct,
 ) -> u32
-    ensures panel { IsDone (calls (on_bus does) panel.old.slot.machine) result panel.new.slot.machine }
+    ensures panel { IsDone (calls (on_panel does) panel.old.slot.machine) result panel.new.slot.machine }
     ensures written { IsDueIn panel.old.slot.machine deadline.old deadline.new }
 {
     on_held!(panel, alloc, |machine| {
-        deadline.set(machine.bus.next_deadline());
+        deadline.set(machine.panel.next_deadline());
         Status::Done
     })
 }
 
-/// Takes the report that waits, and writes it.
+/// Writes what is to be told, and lets it go.
 #[unsafe(no_mangle)]
 pub extern "C" fn osdp_panel_next_report(
     alloc: Global,
     panel: &mut PanelHandle,
     report: &mut ReportStruct,
 ) -> u32
-    ensures panel { IsDone (calls (on_bus reports) panel.old.slot.machine) result panel.new.slot.machine }
-    ensures written { report.new ≡ writes (of_bus writes_report) panel.old.slot.machine report.old }
+    ensures panel { IsDone (calls (on_panel reports) panel.old.slot.machine) result panel.new.slot.machine }
+    ensures written { report.new ≡ writes (of_panel writes_report) panel.old.slot.machine report.old }
 {
     on_held!(panel, alloc, |machine| {
-        let maybe_again = machine.bus.is_maybe_again();
-        report.set(&machine.bus.report(), maybe_again);
-        machine.bus.settle();
+        report.set(&machine.panel.report());
+        machine.panel.settle();
         Status::Done
     })
 }
@@ -308,10 +334,10 @@ pub extern "C" fn osdp_panel_set_moment(alloc: Global, panel: &mut PanelHandle, 
     })
 }
 
-/// Writes what the bus of a panel tells of a device, where it has one of that number. Gives the number of the call's status.
+/// Writes what a panel tells of a device, where it has one of that entry. Gives the number of the call's status.
 macro_rules! on_entry {
     ($panel:ident, $alloc:ident, $look:ident($entry:expr) => |$told:ident| $out:ident = $written:expr) => {
-        on_held!($panel, $alloc, |machine| match machine.bus.$look($entry) {
+        on_held!($panel, $alloc, |machine| match machine.panel.$look($entry) {
             Some($told) => {
                 *$out = $written;
                 Status::Done
@@ -328,11 +354,11 @@ pub extern "C" fn osdp_panel_entries(
     panel: &mut PanelHandle,
     count: &mut usize,
 ) -> u32
-    ensures panel { IsDone (calls (on_bus does) panel.old.slot.machine) result panel.new.slot.machine }
-    ensures written { count.new ≡ writes (of_bus writes_entries) panel.old.slot.machine count.old }
+    ensures panel { IsDone (calls (on_panel does) panel.old.slot.machine) result panel.new.slot.machine }
+    ensures written { count.new ≡ writes (of_panel writes_entries) panel.old.slot.machine count.old }
 {
     on_held!(panel, alloc, |machine| {
-        *count = machine.bus.entries();
+        *count = machine.panel.entries();
         Status::Done
     })
 }
@@ -345,10 +371,24 @@ pub extern "C" fn osdp_panel_address(
     entry: EntryNumber,
     address: &mut u32,
 ) -> u32
-    ensures panel { IsDone (calls (on_bus (looks_at entry)) panel.old.slot.machine) result panel.new.slot.machine }
-    ensures written { address.new ≡ writes (of_bus (writes_address entry)) panel.old.slot.machine address.old }
+    ensures panel { IsDone (calls (on_panel (looks_at entry)) panel.old.slot.machine) result panel.new.slot.machine }
+    ensures written { address.new ≡ writes (of_panel (writes_address entry)) panel.old.slot.machine address.old }
 {
     on_entry!(panel, alloc, address(entry) => |told| address = u32::from(told.get()))
+}
+
+/// Writes the number that the next order of a device has.
+#[unsafe(no_mangle)]
+pub extern "C" fn osdp_panel_next_number(
+    alloc: Global,
+    panel: &mut PanelHandle,
+    entry: EntryNumber,
+    number: &mut u64,
+) -> u32
+    ensures panel { IsDone (calls (on_panel (looks_at_number entry)) panel.old.slot.machine) result panel.new.slot.machine }
+    ensures written { number.new ≡ writes (of_panel (writes_next_number entry)) panel.old.slot.machine number.old }
+{
+    on_entry!(panel, alloc, next_number(entry) => |told| number = told)
 }
 
 /// Writes how many commands wait for a device.
@@ -359,8 +399,8 @@ pub extern "C" fn osdp_panel_waiting(
     entry: EntryNumber,
     count: &mut usize,
 ) -> u32
-    ensures panel { IsDone (calls (on_bus (looks_at entry)) panel.old.slot.machine) result panel.new.slot.machine }
-    ensures written { count.new ≡ writes (of_bus (writes_waiting entry)) panel.old.slot.machine count.old }
+    ensures panel { IsDone (calls (on_panel (looks_at entry)) panel.old.slot.machine) result panel.new.slot.machine }
+    ensures written { count.new ≡ writes (of_panel (writes_waiting entry)) panel.old.slot.machine count.old }
 {
     on_entry!(panel, alloc, waiting(entry) => |told| count = told)
 }
@@ -373,8 +413,8 @@ pub extern "C" fn osdp_panel_is_closed(
     entry: EntryNumber,
     closed: &mut u32,
 ) -> u32
-    ensures panel { IsDone (calls (on_bus (looks_at entry)) panel.old.slot.machine) result panel.new.slot.machine }
-    ensures written { closed.new ≡ writes (of_bus (writes_closed entry)) panel.old.slot.machine closed.old }
+    ensures panel { IsDone (calls (on_panel (looks_at entry)) panel.old.slot.machine) result panel.new.slot.machine }
+    ensures written { closed.new ≡ writes (of_panel (writes_closed entry)) panel.old.slot.machine closed.old }
 {
     on_entry!(panel, alloc, is_closed(entry) => |told| closed = if told { 1 } else { 0 })
 }

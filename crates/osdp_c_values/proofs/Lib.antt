@@ -1,5 +1,6 @@
 pub mod Common
 pub mod AllTold
+pub mod Bursts
 pub mod Putting
 mod SlotForms
 mod Slots

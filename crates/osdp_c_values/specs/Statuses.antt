@@ -9,7 +9,7 @@ use Rattle.osdp_reader.specs.declared.fault.ReaderFault.TheVariants as reader
 use Rattle.osdp_c_values.specs.declared.monitor_fault.MonitorFault.{MonitorFault}
 use Rattle.osdp_c_values.specs.declared.monitor_fault.MonitorFault.TheVariants as monitor
 use Rattle.osdp_c_values.specs.declared.status.Status.{Status}
-use Rattle.osdp_c_values.specs.declared.status.Status.TheVariants.{Done, NoMachine, InUse, BadText, NoEvent, TooSmall, NotAsked, OtherMessage, MomentTooFar, Message, Panel, Reader, EventsFull, Monitor}
+use Rattle.osdp_c_values.specs.declared.status.Status.TheVariants.{Done, NoMachine, InUse, BadText, NoEvent, TooSmall, NotAsked, OtherMessage, MomentTooFar, Message, Panel, NumbersUsedUp, Reader, EventsFull, Monitor}
 
 -- M1 to M3
 abbrev pub message_status : MsgFault → ℕ
@@ -60,5 +60,7 @@ number (Message fault) = message_status fault
 number (Panel fault) = bus_status fault
 number (Reader fault) = reader_status fault
 number (Monitor fault) = monitor_status fault
+-- B7
+number NumbersUsedUp = 27
 -- N2
 number EventsFull = 42

@@ -1,11 +1,15 @@
 -- Structs of plain fields, as they are written.
-use Rattle.std.specs.Prelude.{ℕ, List, [], ◌∷◌, ◌++◌, length, drop, Option, None, Some}
+use Rattle.std.specs.Prelude.{ℕ, Bool, if◌then◌else◌, List, [], ◌∷◌, ◌++◌, length, drop, Option, None, Some}
 use Rattle.osdp_msg.specs.declared.command.Command.{Command}
 use Rattle.osdp_msg.specs.declared.reply.Reply.{Reply}
 use Rattle.osdp_msg.specs.CommandTable.{command_code, command_data}
 use Rattle.osdp_msg.specs.ReplyTable.{reply_code, reply_data}
 use Rattle.osdp_c_values.specs.declared.arrays.BurstStruct.{BurstStruct}
 use Rattle.osdp_c_values.specs.declared.message.MessageStruct.{MessageStruct}
+
+-- whether something is so: 1, or else 0
+abbrev pub flag : Bool → ℕ
+flag so = if so then 1 else 0
 
 -- bytes at the front of an array; the others stay as they were
 abbrev pub filled : List ℕ → List ℕ → List ℕ

@@ -1,44 +1,57 @@
 //! The machines that handles hold.
 
-ghost use Rattle.std.specs.Prelude.{◌≡◌};
-ghost use Rattle.osdp_bus.specs.Ticking.{bus_ticks};
+ghost use Rattle.std.specs.Prelude.{◌≡◌, IfSome, is_some};
 ghost use Rattle.osdp_c_values.specs.Answers.{turn_struct};
-ghost use Rattle.osdp_c_values.specs.Panels.{IsSentIn, ticked};
+ghost use Rattle.osdp_c_values.specs.Panels.{ticked, writes_burst};
 ghost use Rattle.osdp_device.specs.Lent.{said_if, settled_kind, settled_pending};
+ghost use Rattle.osdp_frame.specs.Packet.{IsPacket};
 ghost use Rattle.osdp_frame.specs.Receiving.{count_taken};
+ghost use Rattle.osdp_panel.specs.Sending.{after_write, sent_at};
 ghost use Rattle.osdp_c_values.specs.Readers.{reads_next, steps, writes_next, writes_step};
 
 use crate::answer::AnswerStruct;
 use crate::arrays::BurstStruct;
 use crate::clock::Clock;
 use crate::place::Place;
-use osdp_bus::Bus;
 use osdp_device::{Device, ProgramAnswers, Settled};
 use osdp_frame::Burst;
+use osdp_panel::{Panel, Turn};
 use std::marker::Model;
 
-/// A bus, and the moments that it has seen.
+/// A panel, the moments that it has seen, and the burst of its last tick.
 #[derive(Drop)]
 pub struct PanelMachine {
-    /// The bus.
-    pub bus: Bus,
+    /// The panel.
+    pub panel: Panel,
     /// The moments that it has seen.
     pub clock: Clock,
-    /// Where the burst that goes out is put together.
-    pub sent: Place<Burst>,
+    /// The burst of the last tick that sent one.
+    pub turn: Turn,
 }
 
 impl PanelMachine {
-    /// What is due at a moment: writes the burst to send.
-    pub fn tick(&mut self, now: u64, burst: &mut BurstStruct)
+    /// What is due at a moment: tells whether a burst is to go out, which stands in the turn then.
+    #[tactic(auto, using(crate::proofs::Bursts::turn_is, crate::proofs::Bursts::packet_is))]
+    pub fn tick(&mut self, now: u64) -> bool
+        ensures sends { result ≡ is_some self.new.panel.last }
         ensures panel { self.new ≡ ticked now self.old }
-        ensures written { IsSentIn (bus_ticks now self.old.bus).sent burst.old burst.new }
+        ensures packet { IfSome (sent_at now self.old.panel) IsPacket }
     {
-        if self.bus.tick(now, &mut self.sent.value) {
-            burst.set(self.sent.value.as_slice());
-        } else {
-            burst.set(&[]);
+        match self.panel.tick(now, &mut self.turn) {
+            Some(unsent) => {
+                unsent.later();
+                true
+            }
+            None => false,
         }
+    }
+
+    /// Writes the bytes that go out at a moment, or that there are none.
+    pub fn write(&mut self, now: u64, burst: &mut BurstStruct)
+        ensures panel { self.new ≡ record self.old { panel = after_write now self.old.panel } }
+        ensures written { burst.new ≡ writes_burst now self.old burst.old }
+    {
+        burst.set(self.panel.give(now, &self.turn));
     }
 }
 

@@ -33,6 +33,8 @@ pub enum Status {
     Message(MsgFault),
     /// A panel's refusal.
     Panel(BusFault),
+    /// B7: an entry has used up its numbers.
+    NumbersUsedUp,
     /// There is no reader.
     Reader(ReaderFault),
     /// N2: as many events wait as there is room for.
@@ -96,6 +98,7 @@ impl Status {
             Status::MomentTooFar => 9,
             Status::Message(fault) => message_number(fault),
             Status::Panel(fault) => bus_number(fault),
+            Status::NumbersUsedUp => 27,
             Status::Reader(fault) => reader_number(fault),
             Status::EventsFull => 42,
             Status::Monitor(fault) => fault.number(),

@@ -1,6 +1,6 @@
 //! A panel: what its program calls.
 
-ghost use Rattle.std.specs.Prelude.{◌≡◌, ◌↔◌, IfErr, IfOk, IsSome, OnOk, None, Some, is_some, length, option_map};
+ghost use Rattle.std.specs.Prelude.{◌≡◌, ◌≤◌, ◌↔◌, IfErr, IfOk, IsSome, OnOk, None, Some, is_some, length, option_map};
 ghost use Rattle.osdp_bus.specs.Buses.{device_of};
 ghost use Rattle.osdp_bus.specs.Entries.{address_of};
 ghost use Rattle.osdp_bus.specs.Machine.{after_begin_at, after_retarget_at, begin_refusal_at, changed_unless, is_withdrawn_at, retarget_refusal_at, unless_refused, withdrawal_at};
@@ -20,7 +20,7 @@ use crate::orders::Orders;
 use crate::report::PanelReport;
 use crate::unsent::{Turn, Unsent};
 use osdp_bus::{Bus, BusConfig, BusFault, EntryNumber};
-use osdp_frame::Address;
+use osdp_frame::{Address, MAX_PACKET};
 use osdp_msg::Command;
 use std::alloc::Global;
 use std::marker::Model;
@@ -277,6 +277,7 @@ impl Panel {
     /// As `write`, for a caller that can't hold an `Unsent`: no bytes, too, where no burst is to go out.
     pub fn give<'a>(&mut self, now: u64, turn: &'a Turn) -> &'a [u8]
         ensures bytes { result.now ≡ written now turn.now self.old }
+        ensures length { length result.now ≤ MAX_PACKET }
         ensures panel { self.new ≡ after_write now self.old }
     {
         self.bus.on_bytes(&[], now);

@@ -30,13 +30,19 @@ impl Turn {
     }
 }
 
-/// The burst of a tick hasn't gone out yet. It can't be dropped, so a program that forgets the burst isn't compiled: `Panel::write` takes this, and gives the bytes.
+/// The burst of a tick hasn't gone out yet. It can't be dropped, so a program that forgets the burst isn't compiled: `Panel::write` takes this, and gives the bytes. A caller
+/// that can't hold it between two calls lets it go by `later`.
 pub struct Unsent(());
 
 impl Unsent {
     /// A burst is to go out.
     pub(crate) fn new() -> Unsent {
         Unsent(())
+    }
+
+    /// The burst goes out later, by `Panel::give`.
+    pub fn later(self) {
+        self.ends();
     }
 
     /// It goes out, or is lost.

@@ -16,5 +16,5 @@ returns-after-add c =
       | in-Ok w ↦ w.entry-is ∙ sym (ap (λ r. added_entry r c.args.entry.now) w.in-Ok.is)
       | in-Err w ↦ w.entry-is ∙ sym (ap (λ r. added_entry r c.args.entry.now) w.in-Err.is)
     ] in
-    added_in (device_address c.args.address) _ _ c.add.result _ _ _ _ _ (rw c.in-Some.is at c.take.ensures.machine)
+    added_in (device_address c.args.address) c.args.next_number _ _ c.add.result _ _ _ _ _ (rw c.in-Some.is at c.take.ensures.machine)
     (rw c.deref_mut.ensures.value at c.add.ensures.ends) (rw c.deref_mut.ensures.value at c.add.ensures.machine) told c.put.ensures written
