@@ -2,7 +2,6 @@
 use Rattle.osdp_line_calls.proofs.Common.{◌≡◌, Bool, true, false, refl, subst, ap, arith, Some, None, if◌then◌else◌, Crc, IsBusConfig, IsConfig, some_same}
 use Rattle.osdp_bus.specs.declared.config.BusConfig.{BusConfig}
 use Rattle.osdp_bus.proofs.Defaults as by_default
-use Rattle.osdp_bus.specs.Settings.{default_config}
 use Rattle.osdp_msg.specs.declared.limits.Room.{Room}
 use Rattle.osdp_msg.specs.Limits.{room_for}
 use Rattle.osdp_line_calls.specs.declared.panel_command.PanelSetting.{PanelSetting}
@@ -82,13 +81,7 @@ put_in_range _ r e fits is h = subst of_reader.AreInRange (some_same _ e is) (re
 
 -- what is set without settings
 pub bus_in_range : IsBusConfig panel.defaults.config
-bus_in_range =
-    let h : IsBusConfig (default_config Crc (room_for 64)) =
-    by_default.bus_in_range Crc (room_for 64) 3 ((omega arith, omega arith), omega arith, omega arith) (omega arith, omega arith) in
-    let k = h.controllers.config_in_range in
-    with_config (default_config Crc (room_for 64)) panel.defaults.config h
-    (record { address = k.address; reply_wait = k.reply_wait; poll_interval = k.poll_interval; busy_wait = k.busy_wait; quiet_wait = k.quiet_wait; sends = k.sends; busy_limit = k.busy_limit })
-    refl refl
+bus_in_range = by_default.bus_in_range Crc (room_for 64) 3 ((omega arith, omega arith), omega arith, omega arith) (omega arith, omega arith)
 
 pub reader_in_range : of_reader.AreInRange of_reader.defaults
 reader_in_range = record { address = omega arith; room = (omega arith, omega arith); gap = (omega arith, omega arith); expire = omega arith }

@@ -9,7 +9,7 @@ use Rattle.osdp_line_calls.specs.PanelTexts.{no_line}
 abbrev pub refuses : Session → Called
 refuses s = record { text = no_line; session = s }
 
--- the answer ends with the moment of the next tick
+-- the answer ends with the moment of the next turn
 abbrev pub Ends : Called → Called → Type 0
 Ends done c = (due : Option ℕ) × IsDue done.session due × (c ≡ ended due done)
 

@@ -1,5 +1,5 @@
 -- The settings of a panel: their words, and what each sets.
-use Rattle.std.specs.Prelude.{ℕ, true, ◌<◌, ◌^◌, List, codes, Option, Some}
+use Rattle.std.specs.Prelude.{ℕ, ◌<◌, ◌^◌, List, codes, Option, Some}
 use Rattle.osdp_bus.specs.declared.config.BusConfig.{BusConfig}
 use Rattle.osdp_bus.specs.Settings.{IsBusConfig, default_config}
 use Rattle.osdp_frame.specs.Times.{IsTime}
@@ -26,7 +26,7 @@ entry (QuietWait n) = record { name = codes "quiet-wait"; value = number n; Fits
 entry (Gap n) = record { name = codes "gap"; value = number n; Fits = IsTime n }
 entry (Capacity n) = record { name = codes "capacity"; value = number n; Fits = IsRoom n }
 
--- what it sets of the bus
+-- what it sets of the panel's bus
 abbrev pub with_setting : PanelSetting → BusConfig → BusConfig
 with_setting (Check kind) c = record c { check = kind }
 with_setting (ReplyWait n) c = record c { reply_wait = n }
@@ -41,9 +41,9 @@ with_setting (Capacity n) c = record c { room = room_for n }
 abbrev pub put : PanelSetting → PanelSettings → Option PanelSettings
 put s c = Some (record { config = with_setting s c.config })
 
--- without settings packets end with a CRC, and 64 commands may wait for each device. A POLL stands between any two of its orders, which no setting changes
+-- without settings packets end with a CRC, and 64 commands may wait for each device
 abbrev pub defaults : PanelSettings
-defaults = record { config = record (default_config Crc (room_for 64)) { poll_between_orders = true } }
+defaults = record { config = default_config Crc (room_for 64) }
 
 abbrev pub AreInRange : PanelSettings → Type 0
 AreInRange c = IsBusConfig c.config

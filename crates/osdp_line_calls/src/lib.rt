@@ -8,17 +8,19 @@
 //! event KEYPAD 0 31            -> waiting 1
 //! ```
 //!
-//! So is a reader's device, and so a panel, where each line is one call of a bus:
+//! So is a reader's device, and so a panel, where each line is one call of a panel:
 //!
 //! ```text
-//! add 5                        -> due none
+//! add 5 0                      -> due none
 //! begin 1                      -> due 400
 //! at 400                       -> due 400
-//! tick                         -> send 530508000061003F
+//! tick                         -> burst
+//!                                 due 600
+//! write                        -> send 530508000061003F
 //!                                 due 600
 //! ```
 //!
-//! `LineDevice` and `LinePanel` are each a `LineMachine`: `answer_line` answers a line, and their `answer` a call. What they answer is the definitions in `specs/`, over those of `osdp_device` and `osdp_bus`. `answer_lines` of
+//! `LineDevice` and `LinePanel` are each a `LineMachine`: `answer_line` answers a line, and their `answer` a call. What they answer is the definitions in `specs/`, over those of `osdp_device` and `osdp_panel`. `answer_lines` of
 //! `osdp_line_answers` reads to the end of an input, and answers each line at once.
 //!
 //! The commands `panel` and `reader` have settings, as the words after their names: a name and its value, in any order, and each has a default; where

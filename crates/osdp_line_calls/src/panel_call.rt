@@ -1,32 +1,32 @@
 //! What a line may order.
 
-ghost use Rattle.std.specs.Prelude.{◌∷◌, ℕ, []};
+ghost use Rattle.std.specs.Prelude.{◌∷◌, ◌<◌, ◌^◌, ℕ, []};
 ghost use Rattle.osdp_msg.specs.declared.command.Command.{Command as Ordered};
 ghost use Rattle.osdp_msg.specs.CommandTable.{CommandFits};
 ghost use Rattle.osdp_msg.specs.CommandText.{command_words};
 ghost use Rattle.osdp_words.specs.Reading.{Reads, ReadsWords};
 ghost use Rattle.osdp_words.specs.Word.{number, texts};
-ghost use Rattle.osdp_line_calls.specs.PanelCalls.{CallFits, IsAddress, IsEntry, call_words, entry_word};
+ghost use Rattle.osdp_line_calls.specs.PanelCalls.{CallFits, IsAddress, IsEntry, IsMoment, call_words, entry_word, until_word};
 
 use crate::words::{one_list, one_moment, one_word};
 use arrayvec::ArrayVec;
 use osdp_bus::EntryNumber;
 use osdp_frame::Address;
 use osdp_msg::KeptCommand;
-use osdp_words::{number_u8, number_u32};
+use osdp_words::{number_u8, number_u32, number_u64};
 
-/// What a line orders. An entry is that of the bus, which counts from 0; the line's word for it counts from 1.
+/// What a line orders. An entry is that of the panel, which counts from 0; the line's word for it counts from 1.
 #[derive(Debug, Drop)]
 pub enum PanelCall {
     /// The moment of the calls to come, in milliseconds.
     At(u64),
-    /// A device at this address joins the bus.
-    Add(Address),
+    /// A device at this address joins the panel. Its first order has this number.
+    Add(Address, u64),
     /// A session of the entry's device begins.
     Begin(EntryNumber),
-    /// A command waits for the entry's device.
-    Submit(EntryNumber, KeptCommand),
-    /// The command that has waited longest for the entry's device is taken back.
+    /// An order waits for the entry's device, and may be sent until a moment; `u64::MAX` is never too late.
+    Submit(EntryNumber, u64, KeptCommand),
+    /// The order that has waited longest for the entry's device is taken back.
     Withdraw(EntryNumber),
     /// The entry's device is at this address from now on.
     Retarget(EntryNumber, Address),
@@ -36,6 +36,8 @@ pub enum PanelCall {
     Silence,
     /// What is due at this moment.
     Tick,
+    /// The bytes of the last tick's burst go out at this moment.
+    Write,
 }
 
 /// The entry whose number, from 1, a word is.
@@ -55,11 +57,27 @@ fn parse_address(word: &str) -> Option<Address>
     Address::new(number_u8(word)?)
 }
 
-/// One word, and no other: an address.
-fn one_address(words: &[&str]) -> Option<Address>
-    ensures { ReadsWords (λ n. number n ∷ []) IsAddress (texts words.now) result }
+/// The moment until which an order may be sent, or `never`.
+fn parse_until(word: &str) -> Option<u64>
+    ensures { Reads until_word IsMoment word.now result }
 {
-    parse_address(one_word(words)?)
+    if word == "never" {
+        return Some(u64::MAX);
+    }
+    match number_u64(word)? {
+        u64::MAX => None,
+        until => Some(until),
+    }
+}
+
+/// Two words, and no others: an address, and the number of the first order.
+fn address_and_number(words: &[&str]) -> Option<(Address, u64)>
+    ensures { ReadsWords (λ (x : ℕ × ℕ). number x.0 ∷ number x.1 ∷ []) (λ (x : ℕ × ℕ). IsAddress x.0 × (x.1 < 2 ^ 64)) (texts words.now) result }
+{
+    let [address, next] = words else {
+        return None;
+    };
+    Some((parse_address(address)?, number_u64(next)?))
 }
 
 /// One word, and no other: an entry.
@@ -69,15 +87,16 @@ fn one_entry(words: &[&str]) -> Option<EntryNumber>
     parse_entry(one_word(words)?)
 }
 
-/// An entry, and the words of a command.
-fn entry_and_command(words: &[&str]) -> Option<(EntryNumber, KeptCommand)>
-    ensures { ReadsWords (λ (x : ℕ × Ordered). entry_word x.0 ∷ command_words x.1) (λ (x : ℕ × Ordered). IsEntry x.0 × CommandFits x.1) (texts words.now) result }
+/// An entry, until when its order may be sent, and the words of a command.
+fn read_order(words: &[&str]) -> Option<(EntryNumber, u64, KeptCommand)>
+    ensures { ReadsWords (λ (x : ℕ × ℕ × Ordered). entry_word x.0 ∷ until_word x.1 ∷ command_words x.2) (λ (x : ℕ × ℕ × Ordered). IsEntry x.0 × IsMoment x.1 × CommandFits x.2) (texts words.now) result }
 {
-    let [entry, rest @ ..] = words else {
+    let [entry, until, rest @ ..] = words else {
         return None;
     };
     let entry = parse_entry(entry)?;
-    Some((entry, KeptCommand::parse(rest)?))
+    let until = parse_until(until)?;
+    Some((entry, until, KeptCommand::parse(rest)?))
 }
 
 /// Two words, and no others: an entry and an address.
@@ -96,11 +115,14 @@ pub(crate) fn parse_row(name: &str, words: &[&str]) -> Option<PanelCall>
 {
     match name {
         "at" => Some(PanelCall::At(one_moment(words)?)),
-        "add" => Some(PanelCall::Add(one_address(words)?)),
+        "add" => {
+            let (address, next) = address_and_number(words)?;
+            Some(PanelCall::Add(address, next))
+        }
         "begin" => Some(PanelCall::Begin(one_entry(words)?)),
         "submit" => {
-            let (entry, command) = entry_and_command(words)?;
-            Some(PanelCall::Submit(entry, command))
+            let (entry, until, command) = read_order(words)?;
+            Some(PanelCall::Submit(entry, until, command))
         }
         "withdraw" => Some(PanelCall::Withdraw(one_entry(words)?)),
         "retarget" => {
@@ -110,6 +132,7 @@ pub(crate) fn parse_row(name: &str, words: &[&str]) -> Option<PanelCall>
         "bytes" => Some(PanelCall::Bytes(one_list(words)?)),
         "silence" => words.is_empty().then_some(PanelCall::Silence),
         "tick" => words.is_empty().then_some(PanelCall::Tick),
+        "write" => words.is_empty().then_some(PanelCall::Write),
         _ => None,
     }
 }

@@ -81,7 +81,7 @@ impl PanelSetting {
     }
 }
 
-/// The settings of a panel, which words set. A POLL stands between any two orders of a device, whatever the words are.
+/// The settings of a panel, which words set.
 #[derive(Clone, Copy, Debug, PartialEq, Eq, Drop)]
 pub struct PanelSettings {
     /// The settings of its bus.
@@ -100,9 +100,9 @@ impl Configured for PanelSettings {
     ghost is_in_range = { AreInRange };
 
     fn default_settings() -> PanelSettings {
-        let mut config = BusConfig::new(CheckKind::Crc, Room::of(64));
-        config.poll_between_orders = true;
-        PanelSettings { config }
+        PanelSettings {
+            config: BusConfig::new(CheckKind::Crc, Room::of(64)),
+        }
     }
 
     fn parse(name: &str, value: &str) -> Option<PanelSetting> {

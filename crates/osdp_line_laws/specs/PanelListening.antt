@@ -15,17 +15,17 @@ use Rattle.osdp_line_calls.specs.PanelSessions.{Session, new_session}
 
 pub record ListensBesideItsBus (s : Session) : Type 0 where
   -- a session is told open exactly where it is open: else it is closed, waits for quiet, or opens with number 0
-  pub opened : (entry : ℕ) (d : Entry) → device_of entry s.bus ≡ Some d
+  pub opened : (entry : ℕ) (d : Entry) → device_of entry s.panel.bus ≡ Some d
       → (is_open entry s.listening.opened ≡ false) ↔ IsNotOpen d.controller.session
   -- and none is where there is no device
-  pub absent : (entry : ℕ) → device_of entry s.bus ≡ None → is_open entry s.listening.opened ≡ false
+  pub absent : (entry : ℕ) → device_of entry s.panel.bus ≡ None → is_open entry s.listening.opened ≡ false
   -- what would be told as passed over does nothing to its device but bring the moment
-  pub passed : (p : Packet) (now entry : ℕ) (d : Entry) → device_of entry s.bus ≡ Some d → is_open entry s.listening.opened ≡ false
+  pub passed : (p : Packet) (now entry : ℕ) (d : Entry) → device_of entry s.panel.bus ≡ Some d → is_open entry s.listening.opened ≡ false
       → p.reply ≡ true → IsSome (passed_text p) → hears p now d.controller.session ≡ ignores (seen now d.controller.session)
   -- the gap, the moment of the last bytes and the greatest moment seen are those of the bus
-  pub gap : s.listening.gap ≡ s.bus.config.gap
-  pub last : s.listening.last ≡ s.bus.last
-  pub greatest : s.listening.greatest ≡ s.bus.greatest
+  pub gap : s.listening.gap ≡ s.panel.bus.config.gap
+  pub last : s.listening.last ≡ s.panel.bus.last
+  pub greatest : s.listening.greatest ≡ s.panel.bus.greatest
 
 -- so it is after all lines to a new panel
 abbrev pub ListensAlways : Type 0
