@@ -8,6 +8,7 @@ ghost use Rattle.osdp_calls_instance.specs.Fitting.{CallsForCFit, LinesFit};
 ghost use Rattle.osdp_calls_instance.specs.Instance.{SomeCallsKeep};
 ghost use Rattle.osdp_calls_instance.specs.LinePrograms.{LinesAreThese, PanelLinesAreCalls, PanelsRunAnew, line_device, line_panel};
 ghost use Rattle.osdp_calls_instance.specs.OwnCalls.{CallTheLine, StandsOnCalls};
+ghost use Rattle.osdp_calls_instance.specs.Panels.{PanelIsCalled, rattle_device, rattle_panel};
 ghost use Rattle.osdp_calls_instance.specs.Rule.{TwoCallsKeepRule};
 ghost use Rattle.osdp_calls_instance.specs.TwoEntries.{TwoCallsKeep};
 ghost use Rattle.osdp_device.specs.Program.{program_after, program_answer};
@@ -42,6 +43,17 @@ fn stands_on_calls<H: Handler>()
 {
     osdp_calls::adds_make_the_bus();
     osdp_calls::ends_go_by_their_own_calls::<H>();
+}
+
+/// Whatever an `osdp_panel::Panel` and devices of any handler are called, losses of power among it, is a list of calls of a line in use, which leads to the same bus
+/// and devices. Each call of the panel is the calls of its bus that `bus_calls` of `osdp_panel_laws` names, and each of a device is one. A panel that is made anew has the
+/// settings and entries that it is made with, and a POLL stands between any two orders of a device. A burst that a tick gives and that is withheld, since the last moment of
+/// its order has passed, counts as said and lost on the line. What is promised of them then is law `panel_holds_once_in_any_order` of `osdp_programs_ledger`.
+pub fn panel_calls_are_calls<H: Handler>()
+    ensures bus { PanelIsCalled H }
+    ensures line { CallTheLine rattle_panel (rattle_device H.answer_of H.after) H.answer_of H.after }
+{
+    stands_on_calls::<H>();
 }
 
 /// Whatever programs in C call, losses of power among it, is a list of calls of a line in use, which leads to the same bus and devices. Each call of a

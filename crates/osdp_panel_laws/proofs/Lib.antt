@@ -2,6 +2,12 @@ mod Making
 mod Equal
 mod Written
 pub mod Calling
+pub mod Ahead
+pub mod Tallies
+mod Standing
+mod FromLine
+mod Giving
+mod Outcome
 mod InTime
 mod Forever
 mod Numbers

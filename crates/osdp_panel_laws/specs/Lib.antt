@@ -5,3 +5,4 @@ pub mod Calls
 pub mod InTime
 pub mod Forever
 pub mod Numbers
+pub mod Outcome

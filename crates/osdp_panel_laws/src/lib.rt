@@ -9,6 +9,7 @@ ghost use Rattle.osdp_panel_laws.specs.Forever.{ForeverIsAsItsBus};
 ghost use Rattle.osdp_panel_laws.specs.InTime.{GivesInTime};
 ghost use Rattle.osdp_panel_laws.specs.Making.{AddsAsLast, ComesOfItsSettings};
 ghost use Rattle.osdp_panel_laws.specs.Numbers.{CountsUp};
+ghost use Rattle.osdp_panel_laws.specs.Outcome.{OrdersHaveOneOutcome};
 ghost use Rattle.osdp_panel_laws.specs.Written.{OneBurstIsWritten};
 
 /// Settings out of range are refused as such (B5), whether there is memory or not. Of others a panel comes that has these settings, but a POLL between any two
@@ -64,4 +65,14 @@ pub fn orders_for_ever_go_as_before()
 #[tactic(auto, using(crate::proofs::Numbers::counts_up))]
 pub fn numbers_count_up()
     ensures { (call : Call) (p : PanelState) → CountsUp call p }
+{}
+
+/// Over any calls of a panel from new on: of each entry the orders that `submit` accepted have the numbers from that on with which the entry was added, one after the other.
+/// The first of them have ended, and the others are the one that is on its way, if one is, and those that wait, in this order. Each that has ended was told by one report of
+/// `next_report`, with its number and its command (settled, moved, unread, lost with its session, or expired), or waits to be told so, or was taken back by one `withdraw`; no
+/// report and no `withdraw` is of another. Reports come in the order of the numbers. The moments in the queue are those that `submit` was given for the orders that
+/// haven't ended, so that law `packets_are_given_in_time` speaks of these moments.
+#[tactic(auto, using(crate::proofs::Outcome::orders_have_one_outcome))]
+pub fn orders_have_one_outcome()
+    ensures { OrdersHaveOneOutcome }
 {}
