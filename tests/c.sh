@@ -89,7 +89,9 @@ done
 build monitor tests/c/monitor.c c/heap_malloc.c "${counted[@]}" "$archive" && passes "$work/monitor"
 build monitor_checked tests/c/monitor.c c/heap_malloc.c "${counted[@]}" "$archive" "${checked[@]}" && passes "$work/monitor_checked"
 
-build site tests/c/site.c c/heap_malloc.c c/osdp_site.c "$archive" "${checked[@]}" && passes "$work/site"
+for name in site device_turns; do
+  build "$name" "tests/c/$name.c" c/heap_malloc.c c/osdp_site.c "$archive" "${checked[@]}" && passes "$work/$name"
+done
 
 for heap in malloc pool; do
   build "session_$heap" "${session[@]}" "c/heap_$heap.c" "${counted[@]}" "$archive" && passes "$work/session_$heap"
