@@ -48,7 +48,7 @@ by_device (Some d) entry b command at is =
     let taken : withdrawn_of d ≡ Some command = cc in
     all_wait_less b.devices.entries entry d (entry_withdraws d) at (one_waits_less d command taken)
 
-same_report : (o : Option Entry) (entry : ℕ) (b : BusState)
+pub same_report : (o : Option Entry) (entry : ℕ) (b : BusState)
     → (option_map_or (λ d. record b { devices = record b.devices { entries = slice_set b.devices.entries entry (entry_withdraws d) } }) o b).devices.report
     ≡ b.devices.report
 same_report None entry b = refl
