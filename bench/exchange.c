@@ -1,7 +1,7 @@
 /* Through C: the stack that each call takes, beside what is wanted (`exchange`), or how many POLL exchanges are done for a second of processor
  * time (`exchange COUNT`).
  *
- * An exchange is the panel's tick with its burst, the reader's step over it with its answer, and that answer's bytes to the panel: the calls that a
+ * An exchange is the panel's tick, the burst that it writes, the reader's step over it with its answer, and that answer's bytes to the panel: the calls that a
  * program makes. The stack is measured as what a call changes of a stack that was filled with a pattern, less what is changed where
  * nothing is called. */
 #define _XOPEN_SOURCE 700
@@ -35,7 +35,13 @@ static void demand(bool holds, const char *what)
 
 static void tick(void)
 {
-    (void)osdp_panel_tick(&panel, now, &burst);
+    uint32_t sends;
+    (void)osdp_panel_tick(&panel, now, &sends);
+}
+
+static void write_burst(void)
+{
+    (void)osdp_panel_write(&panel, now, &burst);
 }
 
 static void step(void)
@@ -63,7 +69,8 @@ static void next_deadline(void)
 
 static void submit(void)
 {
-    (void)osdp_panel_submit_text(&panel, 0, "OUT 0:5:30", 10);
+    uint64_t number;
+    (void)osdp_panel_submit_text(&panel, 0, "OUT 0:5:30", 10, OSDP_NEVER, &number);
 }
 
 static void event(void)
@@ -89,7 +96,7 @@ static void new_panel(void)
     struct osdp_panel_config config;
     size_t entry;
     osdp_panel_defaults(&config);
-    demand(osdp_panel_new(&panel, &config) == OSDP_OK && osdp_panel_add(&panel, 5, &entry) == OSDP_OK, "no panel");
+    demand(osdp_panel_new(&panel, &config) == OSDP_OK && osdp_panel_add(&panel, 5, 0, &entry) == OSDP_OK, "no panel");
 }
 
 static void new_reader(void)
@@ -174,6 +181,7 @@ static void exchange(void)
 {
     now += 50;
     tick();
+    write_burst();
     step();
     bytes();
 }
@@ -203,10 +211,12 @@ static void print_depths(void)
     print_depth("osdp_device_event", event_read, 4096);
     now += 50;
     print_depth("osdp_panel_tick", tick, 4096);
+    print_depth("osdp_panel_write", write_burst, 4096);
     print_depth("osdp_device_step", step, 4096);
     print_depth("osdp_panel_bytes", bytes, 4096);
     print_depth("osdp_panel_next_report", next_report, 4096);
     print_depth("osdp_panel_next_deadline", next_deadline, 4096);
+    tick(); /* a turn whose bytes brought a report sends nothing */
     message = answer.command;
     demand(report.kind == OSDP_REPORT_SETTLED && message.code == 0x68, "the order was not settled");
     print_depth("osdp_command_text", text, 4096);
@@ -218,6 +228,7 @@ static void print_depths(void)
     demand(taken > 100, "the monitor told nothing");
     now += 50; /* the next POLL is answered by the event */
     tick();
+    write_burst();
     step();
     print_depth("osdp_panel_bytes, event", bytes, 4096);
     print_depth("osdp_panel_next_report, event", next_report, 4096);
@@ -230,9 +241,11 @@ int main(int count, char **words)
     demand(osdp_panel_begin(&panel, 0, now) == OSDP_OK, "no session");
     now = 400;
     tick();
+    write_burst();
     step();
     bytes();
     next_report();
+    tick();
     demand(report.kind == OSDP_REPORT_OPENED, "no session");
     if (count > 1) {
         printf("%.0f\n", rate(atol(words[1])));

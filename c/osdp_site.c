@@ -86,11 +86,9 @@ void osdp_site_new(osdp_site *site, struct osdp_site_entry *entries, size_t coun
     site->count = count;
     site->bytes = bytes;
     site->pause = OSDP_SITE_PAUSE;
-    site->late = OSDP_SITE_LATE;
-    site->due = UINT64_MAX;
     for (size_t i = 0; i < count; i++) {
         entries[i].begins = entries[i].since = now;
-        entries[i].is_online = entries[i].is_left = false;
+        entries[i].is_online = false;
         entries[i].count = entries[i].done = 0;
     }
 }
@@ -147,7 +145,6 @@ bool osdp_site_heed(osdp_site *site, const struct osdp_report *report, uint64_t 
         return false;
     }
     struct osdp_site_entry *entry = &site->entries[report->entry];
-    entry->is_left = false;
     if (opens) {
         entry->done = 0;
     } else {
@@ -161,7 +158,7 @@ bool osdp_site_heed(osdp_site *site, const struct osdp_report *report, uint64_t 
     return true;
 }
 
-/* The session begins, where none has, and the orders that wait are taken back. At a moment that the panel refuses nothing is done: a call with no bytes asks
+/* The session begins, where none has, and what waits is taken back: so no state goes out twice. At a moment that the panel refuses nothing is done: a call with no bytes asks
  * whether it does. */
 static bool begin_anew(osdp_panel *panel, size_t number, uint64_t now)
 {
@@ -180,9 +177,10 @@ static bool begin_anew(osdp_panel *panel, size_t number, uint64_t now)
 /* What is wanted and not submitted yet goes to the panel, up to the first that it refuses. */
 static void refresh(struct osdp_site_entry *entry, osdp_panel *panel, size_t number)
 {
-    while (entry->is_online && !entry->is_left && entry->done < entry->count) {
+    uint64_t order;
+    while (entry->is_online && entry->done < entry->count) {
         const struct osdp_site_state *state = &entry->wanted[entry->done];
-        if (osdp_panel_submit(panel, number, state->code, state->data, state->length) != OSDP_OK) {
+        if (osdp_panel_submit(panel, number, state->code, state->data, state->length, OSDP_NEVER, &order) != OSDP_OK) {
             return;
         }
         entry->done++;
@@ -235,27 +233,11 @@ uint64_t osdp_site_wait(const osdp_site *site, osdp_panel *panel, uint64_t now, 
     return first - now < most ? first - now : most;
 }
 
-bool osdp_site_order(const osdp_site *site, osdp_panel *panel, size_t number, const struct osdp_message *command)
+bool osdp_site_order(
+    const osdp_site *site, osdp_panel *panel, size_t number, const struct osdp_message *command, uint64_t until, uint64_t *order)
 {
-    return number < site->count && site->entries[number].is_online && !site->entries[number].is_left &&
-           osdp_panel_submit(panel, number, command->code, command->data, command->length) == OSDP_OK;
-}
-
-void osdp_site_leave(osdp_site *site)
-{
-    for (size_t i = 0; i < site->count; i++) {
-        site->entries[i].is_left = site->entries[i].is_online;
-    }
-}
-
-void osdp_site_silence(const osdp_site *site, osdp_panel *panel, struct osdp_burst *burst)
-{
-    uint32_t address;
-    for (size_t i = 0; i < site->count && burst->length > 0; i++) {
-        if (site->entries[i].is_left && osdp_panel_address(panel, i, &address) == OSDP_OK && burst->bytes[1] == address) {
-            burst->length = 0;
-        }
-    }
+    return number < site->count && site->entries[number].is_online &&
+           osdp_panel_submit(panel, number, command->code, command->data, command->length, until, order) == OSDP_OK;
 }
 
 /* Hands each report to the program, once it is heeded. */
@@ -267,25 +249,16 @@ static void take_reports(osdp_site *site, osdp_panel *panel, uint64_t now, osdp_
     }
 }
 
-void osdp_site_turn(
-    osdp_site *site, osdp_panel *panel, const uint8_t *bytes, size_t length, uint64_t now, osdp_site_takes *takes, void *of, struct osdp_burst *burst)
+bool osdp_site_turn(osdp_site *site, osdp_panel *panel, const uint8_t *bytes, size_t length, uint64_t now, osdp_site_takes *takes, void *of)
 {
-    bool stood_still = site->due < now && now - site->due > site->late;
-    if (osdp_panel_bytes(panel, bytes, stood_still ? 0 : length, now) == OSDP_MOMENT_TOO_FAR) {
+    uint32_t sends = 0;
+    if (osdp_panel_bytes(panel, bytes, length, now) == OSDP_MOMENT_TOO_FAR) {
         (void)osdp_panel_set_moment(panel, now);
-        stood_still = true;
-    }
-    if (stood_still) {
-        osdp_site_leave(site);
+        (void)osdp_panel_bytes(panel, bytes, length, now);
     }
     take_reports(site, panel, now, takes, of);
     osdp_site_act(site, panel, now);
-    burst->length = 0;
-    (void)osdp_panel_tick(panel, now, burst);
-    osdp_site_silence(site, panel, burst);
-    take_reports(site, panel, now, takes, of);
-    uint64_t due = next_due(site, panel);
-    site->due = due > now ? due : now; /* what was ordered just now is due already */
+    return osdp_panel_tick(panel, now, &sends) == OSDP_OK && sends != 0;
 }
 
 /* Hands bytes to the device, until all are taken and nothing is said. */

@@ -80,6 +80,8 @@ const char *osdp_status_text(osdp_status status)
         return "an address or a setting is out of its range";
     case OSDP_ADDRESS_OUT_OF_RANGE:
         return "no device has an address above 126";
+    case OSDP_NUMBERS_USED_UP:
+        return "no number is left for an order of the device";
     case OSDP_COMMANDS_FULL:
         return "no more commands may wait now: there is no room, or a COMSET may not go out yet";
     case OSDP_POLL_SUBMITTED:

@@ -52,7 +52,7 @@ EXPORT uint32_t start_panel(void)
     config.check = OSDP_CHECK_SUM;
     osdp_status status = osdp_panel_new(&panel, &config);
     for (uint32_t i = 0; i < DEVICES && status == OSDP_OK; i++) {
-        status = osdp_panel_add(&panel, FIRST_ADDRESS + i, &entry);
+        status = osdp_panel_add(&panel, FIRST_ADDRESS + i, 0, &entry);
     }
     return status;
 }
@@ -69,8 +69,14 @@ EXPORT uint32_t start_device(uint32_t which)
 }
 
 EXPORT uint32_t begin_session(uint32_t entry, uint32_t now) { return osdp_panel_begin(&panel, entry, now); }
-EXPORT uint32_t submit(uint32_t entry, uint32_t length) { return osdp_panel_submit_text(&panel, entry, (const char *)bytes, length); }
 EXPORT uint32_t panel_hears(uint32_t length, uint32_t now) { return osdp_panel_bytes(&panel, bytes, length, now); }
+
+/* Orders what the text in `room` says. The page's time goes on as its user says, so no order is too late. */
+EXPORT uint32_t submit(uint32_t entry, uint32_t length)
+{
+    uint64_t number;
+    return osdp_panel_submit_text(&panel, entry, (const char *)bytes, length, OSDP_NEVER, &number);
+}
 
 /* Takes back the command that has waited longest: the length of its text; 0 where there is none. */
 EXPORT uint32_t withdraw(uint32_t entry)
@@ -78,8 +84,17 @@ EXPORT uint32_t withdraw(uint32_t entry)
     return osdp_panel_withdraw(&panel, entry, &withdrawn) == OSDP_OK ? text_of_message(&withdrawn, false) : 0;
 }
 
-/* How many bytes are due, which stand in `burst_bytes`. */
-EXPORT uint32_t panel_tick(uint32_t now) { return osdp_panel_tick(&panel, now, &burst) == OSDP_OK ? burst.length : 0; }
+/* How many bytes are due, which stand in `burst_bytes`. A turn whose bytes brought a report sends nothing, so a second tick follows. */
+EXPORT uint32_t panel_tick(uint32_t now)
+{
+    uint32_t sends = 0;
+    for (int i = 0; i < 2 && sends == 0; i++) {
+        if (osdp_panel_tick(&panel, now, &sends) != OSDP_OK) {
+            return 0;
+        }
+    }
+    return sends != 0 && osdp_panel_write(&panel, now, &burst) == OSDP_OK ? burst.length : 0;
+}
 
 /* Takes the report that waits: its kind, or 0. */
 EXPORT uint32_t next_report(void) { return osdp_panel_next_report(&panel, &report) == OSDP_OK ? report.kind : 0; }

@@ -4,7 +4,7 @@ import select
 import signal
 import sys
 
-from moments import Turns
+from moments import Turns, moment
 
 LONGEST = 8192  # how many characters a line has at most
 BAD_WORDS, FAILED, NO_PROGRAM = 2, 3, 127  # statuses
@@ -27,7 +27,7 @@ def tell(line):
         stop("standard output can't be written")
 
 
-def take_words(usage, least, options=None):
+def take_words(usage, least, options=None, has_late=True):
     """The words after the options, so many at least. `options` has the default of each option beside `--late MS`, and gets what the words say: a flag has False, and
     another one is followed by its value. `--help` prints the usage. Ctrl-C ends the example, which then tells what became of its orders."""
     for number in STOPS:
@@ -38,7 +38,7 @@ def take_words(usage, least, options=None):
         tell(usage.strip())
         raise SystemExit(0)
     options = {} if options is None else options
-    while words and (words[0] == "--late" or words[0] in options):
+    while words and ((has_late and words[0] == "--late") or words[0] in options):
         name = words.pop(0)
         value = True if options.get(name) is False else words.pop(0) if words else ""
         if name == "--late":
@@ -68,6 +68,7 @@ class Lines:
 
     def __init__(self):
         self.rest, self.is_over = b"", sys.stdin is None
+        self.empty_at = moment()
 
     def read(self):
         piece = os.read(0, 4096)
@@ -78,6 +79,13 @@ class Lines:
                 yield line.decode()
             else:
                 tell("refused line")
+
+    def since(self):
+        """A moment before which no line was typed that isn't read yet: the one at which standard input was last seen empty."""
+        looks_at = moment()  # before the look: an example that is stopped in between takes no line for younger
+        if not select.select([0], [], [], 0)[0]:
+            self.empty_at = looks_at
+        return self.empty_at
 
     def refuse(self):
         """Refuses all lines that are there: they came while the program stood still, and nobody knows when."""

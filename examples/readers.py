@@ -4,7 +4,13 @@ import atexit
 from lines import BAD_WORDS, stop, tell
 
 MOST = 16  # readers of a line
-ORDER_AT = {"settled": 0, "withdrawn": 0, "lost": 1, "unread": 2}  # of a report: how many words stand before the order that has its end by it
+ENDS = ("settled", "withdrawn", "expired", "unread", "moved", "lost")  # reports by which an order has its end
+
+
+def without_number(line):
+    """The number of the order that a line is about, none where it is about none; and its other words."""
+    words = line.split()
+    return words[1:] if words[:1] == ["order"] else [None, *words]
 
 
 class Reader:
@@ -13,13 +19,16 @@ class Reader:
     def __init__(self, address):
         self.address = address
         self.begins = 0  # when its closed session begins; none while it has one
-        self.is_open = self.is_left = False  # `is_left`: nothing is sent to it, so that its session ends
-        self.orders = []  # those that have no end yet
+        self.is_open = False
+        self.given = ""  # the order that was handed over last
+        self.orders = {}  # those that have no end yet, by their numbers
 
-    def hears(self, name, words):
-        """Takes off the order that has its end by a report. They go out one after the other, so it is the oldest one."""
-        if len(words) > ORDER_AT.get(name, len(words)):
-            self.orders.pop(0)
+    def hears(self, number, name):
+        """Notes an order that is taken, or that has its end by a report."""
+        if name == "waits":
+            self.orders[number] = self.given
+        elif name in ENDS:
+            self.orders.pop(number, None)
 
 
 class Readers(dict):
@@ -34,21 +43,12 @@ class Readers(dict):
             self[str(at)] = Reader(address)
         atexit.register(self.ends)
 
-    def at(self, address):
-        """The reader at an address."""
-        return next(each for each in self.values() if each.address == address)
-
     def due(self):
         """When the next session begins."""
         return [each.begins for each in self.values() if each.begins is not None]
 
-    def leaves(self):
-        """The program stood still: an order of before would be done long after it was given. So the session of each reader with orders is left, until it is lost."""
-        for each in self.values():
-            each.is_left = each.is_left or bool(each.orders)
-
     def ends(self):
         """The example ends: of each reader's orders the first may have gone out, and the others have not."""
         for which, reader in self.items():
-            for at, text in enumerate(reader.orders):
-                tell(f"{'withdrawn' if at else 'in doubt'} {which} {text}")
+            for at, (number, text) in enumerate(reader.orders.items()):
+                tell(f"order {number} {'withdrawn' if at else 'in doubt'} {which} {text}")

@@ -7,7 +7,7 @@
  * cc FILE $(pkg-config --cflags --libs osdp).
  *
  * Nothing here reads, writes, sleeps or keeps a clock. The program waits for bytes, takes the moment, reads all that is there,
- * hands both in, and writes the bytes that it is given.
+ * hands both in, and writes the bytes that it is given. A panel's program takes the moment anew just before it writes.
  *
  * Words.      A machine is a panel, a device or a monitor. A burst is the bytes of one packet that is to be written. A run is the bytes
  *             that come without a silence as long as the setting `gap`. An entry is the number of a device in its panel. An exchange
@@ -26,10 +26,10 @@
  *             a reason has the meaning that stands at `osdp_status`.
  * Writing.    A struct is written whole, except for its arrays: of an array as many bytes are written as its length says, and the
  *             others stay as they were. Nothing beyond a struct is written. No struct that a call reads or writes has padding.
- * Heap.       `osdp_panel_new` takes 6,880 bytes in three blocks. `osdp_panel_add` takes 3,059 bytes, and 1,435 for each command that may
- *             wait, in four blocks. `osdp_device_new` takes 11,000 bytes, the capabilities, and 1,443
- *             for each event that may wait, in five blocks, or in four without capabilities. Where a room in bytes is given, 2 bytes
- *             for each command and the room stand in place of the 1,435, and the 3,059 are the most. For a device 10 bytes for each
+ * Heap.       `osdp_panel_new` takes 7,592 bytes in four blocks. `osdp_panel_add` takes 3,067 bytes, and 1,443 for each command that may
+ *             wait, in five blocks. `osdp_device_new` takes 11,000 bytes, the capabilities, and 1,443
+ *             for each event that may wait, in five blocks, or in four without capabilities. Where a room in bytes is given, 10 bytes
+ *             for each command and the room stand in place of a panel's 1,443, and the 3,067 are the most. For a device 10 bytes for each
  *             event and the room stand in place of the 1,443. `free` gives all back. No other call of a panel or a device takes
  *             memory. `osdp_monitor_new` takes 26,336 bytes in three blocks. The calls by which a monitor hears take 2,928 bytes for each
  *             address, and its text. A call for which there is no memory is refused. Then nothing has changed, except that a monitor
@@ -67,15 +67,15 @@
  *   go on. The panel then likely reports its sessions as lost. The first moment may be any, so take it with care: until the clock
  *   reaches the greatest moment seen, time stands still for the machine.
  * - Bursts are written at once, whole and in their order: else the other end reads a packet that was never meant, or none. One that
- *   can't be written at once isn't written at all: for the machine it is lost on the line. A program that stood still, or that is late
- *   with a burst, says nothing more to the device until its session is lost: else an order of long ago goes out (osdp_site.h).
+ *   can't be written at once isn't written at all: for the machine it is lost on the line. A panel's burst is asked for at a moment
+ *   that is taken just before it is written (`osdp_panel_write`): else an order goes out whose last moment has passed.
  * - Each machine is freed: else its memory is leaked.
  *
  * What is promised of a line on which one panel speaks, where both ends are these machines and the premises hold. No order is taken
  * twice. In each session orders are taken in order, and each that is settled has the answer that the device gave. In each session an
  * event is reported once at most, and in order. None is passed over but those that a restart of the device threw away, and those that
- * its program withdrew or let lapse. This holds whatever calls are made, at whatever moments, and however bytes are cut. Nothing knows how old an order is: one
- * that goes out late is taken late. docs/HEADLINE.md has the promise in full, and under "What is asked" its premises. docs/PROGRAMS.md
+ * its program withdrew or let lapse. This holds whatever calls are made, at whatever moments, and however bytes are cut. And at no moment after
+ * its last one (`until`) does a panel give out the packet of an order. docs/HEADLINE.md has the promise in full, and under "What is asked" its premises. docs/PROGRAMS.md
  * has what a program does for each. Above all `quiet_wait` is more than twice the longest time that a packet takes until it is read,
  * and addresses are given by the rule for addresses there.
  */
@@ -176,6 +176,8 @@ typedef enum osdp_status {
     OSDP_PANEL_OUT_OF_RANGE = 25,
     /* B6: the address of a COMSET is 127 or above, which no device has. */
     OSDP_ADDRESS_OUT_OF_RANGE = 26,
+    /* B7: the device has used up the numbers of its orders: the next one would be 2^64 - 1, which no order has. */
+    OSDP_NUMBERS_USED_UP = 27,
 
     /* C3: as many commands wait as there is room for; or there is no room for the bytes of this one beside theirs and those of the command on its way. */
     OSDP_COMMANDS_FULL = 33,
@@ -531,9 +533,9 @@ OSDP_CHECKED osdp_status osdp_output_of(const struct osdp_message *command, osdp
 OSDP_CHECKED osdp_status osdp_led_of(const struct osdp_message *command, osdp_size at, struct osdp_led *led);
 
 /*
- * Each writes a command to `command`. Then `osdp_panel_submit(&panel, entry, command.code, command.data, command.length)` orders it. `count` is how many
+ * Each writes a command to `command`. Then `osdp_panel_submit(&panel, entry, command.code, command.data, command.length, until, &number)` orders it. `count` is how many
  * records there are: 1 to 358 of an OUT, 1 to 102 of a LED. ID and CAP carry one byte, which is 0: the standard has no other for it. Without that byte they
- * are no commands (OSDP_BAD_LENGTH). LSTAT, ISTAT, OSTAT and RSTAT carry nothing: `osdp_panel_submit(&panel, entry, OSDP_LSTAT, NULL, 0)` orders one.
+ * are no commands (OSDP_BAD_LENGTH). LSTAT, ISTAT, OSTAT and RSTAT carry nothing: `osdp_panel_submit(&panel, entry, OSDP_LSTAT, NULL, 0, until, &number)` orders one.
  *
  * OSDP_BAD_LENGTH (M2): there is no record, or more than 358 of an OUT or 102 of a LED, or the maker's bytes are more than 1,429; nothing is written.
  * OSDP_ADDRESS_OUT_OF_RANGE (B6): the address of a COMSET is above 126, and no device has such an address; nothing is written.
@@ -710,6 +712,28 @@ enum {
 
 /* ---- A panel: the controller's end of a line with up to sixteen devices ---- */
 
+/*
+ * A panel knows how old an order is. Each order of a device has a number, and a last moment, `until`: a packet of it goes out until then, and no later. Where that
+ * moment passes while the order waits, a report tells that it has expired. Where it passes once the order was sent, it isn't sent again, and its answer is still
+ * waited for. Between any two orders of a device a POLL is answered, so orders that come as fast as they go keep no card waiting.
+ *
+ * A turn of a panel's program:
+ *
+ *     static struct osdp_report report;
+ *     static struct osdp_burst burst;
+ *     .. waits for bytes, at most until osdp_panel_next_deadline; then takes the moment; then reads all that is there ..
+ *     osdp_panel_bytes(&panel, bytes, length, now);
+ *     while (osdp_panel_next_report(&panel, &report) == OSDP_OK && report.kind != OSDP_REPORT_NONE) {
+ *         .. the program's own part: it looks at `detail` and `since` before it opens for a card ..
+ *     }
+ *     if (osdp_panel_tick(&panel, now, &sends) == OSDP_OK && sends) {
+ *         .. takes the moment anew, into now ..
+ *         if (osdp_panel_write(&panel, now, &burst) == OSDP_OK) {
+ *             .. writes the burst, whole, where it has a length, and flushes it ..
+ *         }
+ *     }
+ */
+
 /* A panel's handle. All zeros is none: `osdp_panel panel = {0};`. The caller neither reads nor writes its words. 16 bytes. */
 typedef struct osdp_panel {
     void *panel;
@@ -727,7 +751,7 @@ enum {
 struct osdp_panel_config {
     /* Which check the packets of the panel end with: OSDP_CHECK_SUM or OSDP_CHECK_CRC. */
     uint32_t check;
-    /* How long an answer is waited for, from the `osdp_panel_tick` that gave the packet. */
+    /* How long an answer is waited for, from the `osdp_panel_tick` that sent the packet. */
     uint32_t reply_wait;
     /* How long after an answer the next POLL of that device is due. */
     uint32_t poll_interval;
@@ -778,10 +802,13 @@ OSDP_CHECKED osdp_status osdp_panel_free(osdp_panel *panel);
  * Adds a device at an address, 0 to 126. Its session is closed. Its number is written to `entry`: 0 to 15, in the order of adding. A device can't be taken
  * away again. One may be added while sessions of others go on, at an address that no other device has had since the panel was made.
  *
+ * Its first order has the number `next_number`: 0 for a device that never had an order, and after a restart of the program the one that
+ * `osdp_panel_next_number` told last.
+ *
  * OSDP_NO_MACHINE. OSDP_TOO_MANY (B2): the panel has sixteen devices. OSDP_PANEL_OUT_OF_RANGE (B5): the address is above 126. OSDP_ADDRESS_TAKEN (B3):
  * it is that of another device or reserved for one. OSDP_PANEL_NO_MEMORY (B1). After a refusal `entry` stays as it was.
  */
-OSDP_CHECKED osdp_status osdp_panel_add(osdp_panel *panel, uint32_t address, osdp_size *entry);
+OSDP_CHECKED osdp_status osdp_panel_add(osdp_panel *panel, uint32_t address, uint64_t next_number, osdp_size *entry);
 
 /*
  * Begins a session of a device. The device is left quiet for `quiet_wait`, and then the opening ID goes out when its turn comes. A report says what becomes
@@ -791,17 +818,29 @@ OSDP_CHECKED osdp_status osdp_panel_add(osdp_panel *panel, uint32_t address, osd
  */
 OSDP_CHECKED osdp_status osdp_panel_begin(osdp_panel *panel, osdp_size entry, uint64_t now);
 
+/* The last moment of an order that is never too late. */
+#define OSDP_NEVER UINT64_MAX
+
 /*
- * Puts a command after those that wait for a device, whether or not its session has begun. It is copied: `data` has `length` bytes. Once it was
- * sent a report says what becomes of it: OSDP_REPORT_SETTLED, OSDP_REPORT_MOVED, OSDP_REPORT_UNREAD or OSDP_REPORT_LOST. It goes out when its turn comes, also
- * in a later session, however late: before, `osdp_panel_withdraw` takes it back. It is gone where the panel is freed or loses power before.
+ * Writes the number that the next order of a device has. The numbers of a device count up by one with each order that is accepted. A program that stores its
+ * orders stores this number before it submits, and hands it to `osdp_panel_add` after a restart. OSDP_NO_MACHINE. OSDP_NO_ENTRY (B4).
+ */
+OSDP_CHECKED osdp_status osdp_panel_next_number(osdp_panel *panel, osdp_size entry, uint64_t *number);
+
+/*
+ * Puts a command after those that wait for a device, whether or not its session has begun, and writes the number of this order to `number`. It is copied:
+ * `data` has `length` bytes. It goes out when its turn comes, also in a later session, but at no moment after `until`; with OSDP_NEVER it is never too late. Once
+ * it was sent a report says what becomes of it: OSDP_REPORT_SETTLED, OSDP_REPORT_MOVED, OSDP_REPORT_UNREAD or OSDP_REPORT_LOST. Where `until` passes while it
+ * waits, OSDP_REPORT_EXPIRED tells that as soon as it is in front, and it never goes out. Before, `osdp_panel_withdraw` takes it back. It is gone where the panel
+ * is freed or loses power before.
  *
  * OSDP_NO_MACHINE. OSDP_UNKNOWN_CODE (M1), OSDP_BAD_LENGTH (M2), OSDP_BAD_COUNT (M3): the code and data are those of no command. OSDP_NO_ENTRY (B4).
- * OSDP_POLL_SUBMITTED (C4): it is a POLL. OSDP_ADDRESS_OUT_OF_RANGE (B6): it is a COMSET to an address above 126, where the device would be out of reach.
- * OSDP_ADDRESS_TAKEN (B3): it is a COMSET to an address of another device or reserved for one, or an address is reserved for this device already.
- * OSDP_COMMANDS_FULL (C3).
+ * OSDP_NUMBERS_USED_UP (B7). OSDP_POLL_SUBMITTED (C4): it is a POLL. OSDP_ADDRESS_OUT_OF_RANGE (B6): it is a COMSET to an address above 126, where the device
+ * would be out of reach. OSDP_ADDRESS_TAKEN (B3): it is a COMSET to an address of another device or reserved for one, or an address is reserved for this device
+ * already. OSDP_COMMANDS_FULL (C3). After a refusal `number` stays as it was.
  */
-OSDP_CHECKED static inline osdp_status osdp_panel_submit(osdp_panel *panel, osdp_size entry, uint8_t code, const uint8_t *data, osdp_size length);
+OSDP_CHECKED static inline osdp_status osdp_panel_submit(
+    osdp_panel *panel, osdp_size entry, uint8_t code, const uint8_t *data, osdp_size length, uint64_t until, uint64_t *number);
 
 /*
  * As `osdp_panel_submit`, for the text of a command, such as `OUT 0:5:30`. One or more spaces stand between two words, and spaces may stand at both ends. The
@@ -809,12 +848,14 @@ OSDP_CHECKED static inline osdp_status osdp_panel_submit(osdp_panel *panel, osdp
  *
  * OSDP_NO_MACHINE. OSDP_BAD_TEXT: it is the text of no command. The others are those of `osdp_panel_submit`, without M1 to M3.
  */
-OSDP_CHECKED static inline osdp_status osdp_panel_submit_text(osdp_panel *panel, osdp_size entry, const char *text, osdp_size length);
+OSDP_CHECKED static inline osdp_status osdp_panel_submit_text(
+    osdp_panel *panel, osdp_size entry, const char *text, osdp_size length, uint64_t until, uint64_t *number);
 
 /*
  * Takes back the command that has waited longest for a device, and writes it to `command`. It won't be sent, no report tells it, and an address that it
- * reserved is free. So it is also while a session goes on. Where none waits, or where a command of the device is on its way, nothing is taken back, and
- * `present` is 0. One is on its way from its first packet until a report tells what became of it.
+ * reserved is free. So it is also while a session goes on. Its number is the one that `osdp_panel_next_number` writes less what `osdp_panel_waiting` wrote
+ * before. Where none waits, or where a command of the device is on its way, nothing is taken back, and `present` is 0. One is on its way from its first packet
+ * until the report arises that says what became of it.
  *
  * OSDP_NO_MACHINE. OSDP_NO_ENTRY (B4). After a refusal `command` stays as it was.
  */
@@ -831,7 +872,7 @@ OSDP_CHECKED osdp_status osdp_panel_retarget(osdp_panel *panel, osdp_size entry,
 
 /*
  * Hands in bytes that have come from the line, in any pieces. Each packet that they finish goes to the device of its address. A call with no bytes
- * moves the greatest moment seen, and changes nothing else. Take the report that may wait after it (`osdp_panel_next_report`).
+ * moves the greatest moment seen, and changes nothing else. Take the reports that wait after it (`osdp_panel_next_report`).
  *
  * OSDP_NO_MACHINE. OSDP_MOMENT_TOO_FAR: no byte was taken.
  */
@@ -844,10 +885,22 @@ OSDP_CHECKED static inline osdp_status osdp_panel_bytes(osdp_panel *panel, const
 OSDP_CHECKED osdp_status osdp_panel_silence(osdp_panel *panel, uint64_t now);
 
 /*
- * Does what is due at a moment, and writes the burst that is to go out: write it to the line whole before the next call. Its `length` is 0 where nothing is to
- * go out, as while a report waits. A tick may also leave a report, so take that one too. OSDP_NO_MACHINE. OSDP_MOMENT_TOO_FAR: no burst is written.
+ * Does what is due at a moment, and writes to `sends` whether a burst is to go out: 1 or 0. Where it is 1, take the moment anew, and the burst by `osdp_panel_write`,
+ * before any other call: a burst that isn't taken before the next tick is lost on the line. None is to go out while a report waits, nor in a turn in which
+ * `osdp_panel_bytes` brought a report; then the next tick is due at once. A tick may also leave a report, which the next turn takes.
+ *
+ * OSDP_NO_MACHINE. OSDP_MOMENT_TOO_FAR. After a refusal `sends` stays as it was.
  */
-OSDP_CHECKED osdp_status osdp_panel_tick(osdp_panel *panel, uint64_t now, struct osdp_burst *burst);
+OSDP_CHECKED osdp_status osdp_panel_tick(osdp_panel *panel, uint64_t now, uint32_t *sends);
+
+/*
+ * Writes the burst of the last tick, which goes out at this moment, taken just before: write it to the line whole before the next call. Its `length` is 0 where none
+ * is to go out, and where it is too late: then the last moment of its order has passed. For the panel such a packet is lost on the line. So what becomes of the
+ * order is in doubt, and `too_late` of the report with which its session is lost tells why. Each burst is written once.
+ *
+ * OSDP_NO_MACHINE. OSDP_MOMENT_TOO_FAR: nothing is written, and the burst is still to go out. After `osdp_panel_set_moment` it may be asked for again.
+ */
+OSDP_CHECKED osdp_status osdp_panel_write(osdp_panel *panel, uint64_t now, struct osdp_burst *burst);
 
 /*
  * Sets the greatest moment seen, however far it lies after the one before: for a host that slept, after OSDP_MOMENT_TOO_FAR. One that lies before the greatest
@@ -866,9 +919,9 @@ struct osdp_moment {
 } OSDP_ALIGNED;
 
 /*
- * Writes the moment at which `osdp_panel_tick` is to be called next, if no other call comes before. A tick at that moment or later gives a burst, leaves a
- * report or ends a run of bytes, and an earlier tick does none of these. It may lie in the past: then tick at once. There is none (`present` is 0) while a
- * report waits, and where no tick would do anything.
+ * Writes the moment of the next turn, if no bytes come before. A tick at that moment or later sends, leaves a report, tells that an order has expired, or ends a
+ * run of bytes, and an earlier one does none of these. It may lie in the past: then take a turn at once. So it is while a report waits, and after a turn in which
+ * bytes brought a report. There is none (`present` is 0) where no turn would do anything before bytes or another call come.
  *
  * OSDP_NO_MACHINE.
  */
@@ -880,12 +933,12 @@ enum {
     OSDP_REPORT_NONE = 0,
     /* The session is open. `reply` is the PDID, which says what the device is. */
     OSDP_REPORT_OPENED = 1,
-    /* `command` was answered by `reply`. Look at it: it may be a NAK, and then nothing was done. */
+    /* The order `command` was answered by `reply`. Look at it: it may be a NAK, and then nothing was done. */
     OSDP_REPORT_SETTLED = 2,
-    /* `command`, a COMSET, was answered by `reply`, a COM with the same address. The device is at its new address, and the session has ended: begin it again.
+    /* The order `command`, a COMSET, was answered by `reply`, a COM with the same address. The device is at its new address, and the session has ended: begin it again.
        The device's rate is that of the COM, which may be another than was ordered: `osdp_com_of` reads it. */
     OSDP_REPORT_MOVED = 3,
-    /* The device told an event, which `reply` carries. `detail` is OSDP_EVENT_MAYBE_AGAIN where it may have been reported before, else 0. */
+    /* The device told an event, which `reply` carries. `detail` is OSDP_EVENT_MAYBE_AGAIN where it may have been reported before, else 0. `since` tells its age. */
     OSDP_REPORT_EVENT = 4,
     /* A POLL was answered by `reply`, which is neither an ACK nor an event, such as a NAK. */
     OSDP_REPORT_ANSWERED = 5,
@@ -893,8 +946,11 @@ enum {
        and it isn't sent again. The session goes on. An address that a COMSET reserved stays reserved until `osdp_panel_retarget`. */
     OSDP_REPORT_UNREAD = 6,
     /* The session has ended; `detail` says why: OSDP_LOST_NO_REPLY to OSDP_LOST_NUMBER_REFUSED. What became of `command`, if there is one, is unknown, and it
-       isn't sent again. If it is a COMSET, its address stays reserved until `osdp_panel_retarget`. The commands that wait go out in the next session. */
-    OSDP_REPORT_LOST = 7
+       isn't sent again. If it is a COMSET, its address stays reserved until `osdp_panel_retarget`. The commands that wait go out in the next session, those whose
+       last moment hasn't passed by then. */
+    OSDP_REPORT_LOST = 7,
+    /* The last moment of the order `command` passed while it waited: it never went out, and never will. An address that it reserved is free once this is taken. */
+    OSDP_REPORT_EXPIRED = 8
 };
 
 /* Why a session was lost: the `detail` of OSDP_REPORT_LOST. */
@@ -916,14 +972,23 @@ enum {
     OSDP_EVENT_MAYBE_AGAIN = 1
 };
 
-/* A report. 2,888 bytes. */
+/* A report. 2,912 bytes. */
 struct osdp_report {
     /* The number of the device of which it tells. 0 where no report waits. */
     osdp_size entry;
-    /* OSDP_REPORT_NONE to OSDP_REPORT_LOST. */
+    /* Where `numbered` is 1: the number of the order of which it tells, which `osdp_panel_submit` wrote. Else 0. */
+    uint64_t number;
+    /* Of an event: the moment at which the POLL was first sent that it answers, so the device offered it no earlier in this session. A card that was read longer
+       ago than a setting opens no door. 0 of all others. */
+    uint64_t since;
+    /* OSDP_REPORT_NONE to OSDP_REPORT_EXPIRED. */
     uint32_t kind;
     /* As the kind says: of OSDP_REPORT_EVENT, OSDP_REPORT_UNREAD and OSDP_REPORT_LOST. Else 0. */
     uint32_t detail;
+    /* 1 where it tells of an order, else 0. `command` is that order then. */
+    uint32_t numbered;
+    /* 1 where a session was lost with an order that wasn't sent again since its last moment had passed, else 0. What became of that order is unknown. */
+    uint32_t too_late;
     /* The command and the reply that the kind names. Else none: `present` is 0. */
     struct osdp_message command;
     struct osdp_message reply;
@@ -945,8 +1010,8 @@ OSDP_CHECKED osdp_status osdp_panel_waiting(osdp_panel *panel, osdp_size entry, 
 OSDP_CHECKED osdp_status osdp_panel_is_closed(osdp_panel *panel, osdp_size entry, uint32_t *closed);
 
 /*
- * Takes the report that waits, and writes it; its `kind` is OSDP_REPORT_NONE where none waits. At most one waits. Call it after `osdp_panel_bytes`,
- * `osdp_panel_silence` and `osdp_panel_tick`: while a report waits, the panel sends nothing. OSDP_NO_MACHINE.
+ * Takes what is to be told, and writes it; its `kind` is OSDP_REPORT_NONE where there is nothing. Call it after `osdp_panel_bytes` and `osdp_panel_silence` until
+ * there is nothing: at most one report of the line waits, and one for each order that has expired. While one waits, the panel sends nothing. OSDP_NO_MACHINE.
  */
 OSDP_CHECKED osdp_status osdp_panel_next_report(osdp_panel *panel, struct osdp_report *report);
 
@@ -1344,8 +1409,10 @@ OSDP_CHECKED osdp_status osdp_command_text_nonnull(uint8_t code, const uint8_t *
 OSDP_CHECKED osdp_status osdp_reply_text_nonnull(uint8_t code, const uint8_t *data, osdp_size length, char *text, osdp_size room, osdp_size *text_length);
 OSDP_CHECKED osdp_status osdp_out_nonnull(const struct osdp_output *outputs, osdp_size count, struct osdp_message *command);
 OSDP_CHECKED osdp_status osdp_led_nonnull(const struct osdp_led *leds, osdp_size count, struct osdp_message *command);
-OSDP_CHECKED osdp_status osdp_panel_submit_nonnull(osdp_panel *panel, osdp_size entry, uint8_t code, const uint8_t *data, osdp_size length);
-OSDP_CHECKED osdp_status osdp_panel_submit_text_nonnull(osdp_panel *panel, osdp_size entry, const char *text, osdp_size length);
+OSDP_CHECKED osdp_status osdp_panel_submit_nonnull(
+    osdp_panel *panel, osdp_size entry, uint8_t code, const uint8_t *data, osdp_size length, uint64_t until, uint64_t *number);
+OSDP_CHECKED osdp_status osdp_panel_submit_text_nonnull(
+    osdp_panel *panel, osdp_size entry, const char *text, osdp_size length, uint64_t until, uint64_t *number);
 OSDP_CHECKED osdp_status osdp_panel_bytes_nonnull(osdp_panel *panel, const uint8_t *bytes, osdp_size length, uint64_t now);
 OSDP_CHECKED osdp_status osdp_device_new_nonnull(osdp_device *device, const struct osdp_device_config *config, const uint8_t *capabilities, osdp_size length);
 OSDP_CHECKED osdp_status osdp_device_new_with_room_nonnull(
@@ -1430,20 +1497,22 @@ static inline osdp_status osdp_led(const struct osdp_led *leds, osdp_size count,
     return osdp_led_nonnull(osdp_some_leds(leds), count, command);
 }
 
-static inline osdp_status osdp_panel_submit(osdp_panel *panel, osdp_size entry, uint8_t code, const uint8_t *data, osdp_size length)
+static inline osdp_status osdp_panel_submit(
+    osdp_panel *panel, osdp_size entry, uint8_t code, const uint8_t *data, osdp_size length, uint64_t until, uint64_t *number)
 {
     if (osdp_is_missing(data, length)) {
         return OSDP_BAD_LENGTH;
     }
-    return osdp_panel_submit_nonnull(panel, entry, code, osdp_some_bytes(data), length);
+    return osdp_panel_submit_nonnull(panel, entry, code, osdp_some_bytes(data), length, until, number);
 }
 
-static inline osdp_status osdp_panel_submit_text(osdp_panel *panel, osdp_size entry, const char *text, osdp_size length)
+static inline osdp_status osdp_panel_submit_text(
+    osdp_panel *panel, osdp_size entry, const char *text, osdp_size length, uint64_t until, uint64_t *number)
 {
     if (osdp_is_missing(text, length)) {
         return OSDP_BAD_LENGTH;
     }
-    return osdp_panel_submit_text_nonnull(panel, entry, osdp_some_text(text), length);
+    return osdp_panel_submit_text_nonnull(panel, entry, osdp_some_text(text), length, until, number);
 }
 
 static inline osdp_status osdp_panel_bytes(osdp_panel *panel, const uint8_t *bytes, osdp_size length, uint64_t now)

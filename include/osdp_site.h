@@ -8,20 +8,20 @@
  * thread for each line holds a lock over the call, or makes the calls of osdp.h by itself.
  *
  * The program says once how an LED, an output, a buzzer or a text is to be (`osdp_site_wants`), hands on each report (`osdp_site_heed`), and calls
- * `osdp_site_act` in each turn, before `osdp_panel_tick`:
+ * `osdp_site_act` in each turn, before `osdp_panel_tick`. `osdp_site_turn` makes these calls:
  *
  *     static struct osdp_site_entry entries[3];
  *     osdp_site site;
  *     osdp_site_new(&site, entries, 3, OSDP_SITE_ANY_LENGTH, now);      the entries are those of the panel, in the order of adding
  *     osdp_site_wants(&site, door, &red);
  *     for (;;) {
- *         .. waits for bytes, at most until the earlier of osdp_panel_next_deadline and osdp_site_next_deadline, takes the moment, and reads all that is there ..
- *         osdp_panel_bytes(&panel, bytes, length, now);
- *         while (osdp_panel_next_report(&panel, &report) == OSDP_OK && report.kind != OSDP_REPORT_NONE) {
- *             if (osdp_site_heed(&site, &report, now)) { .. it is online or offline from now on .. }
+ *         .. waits for bytes, at most osdp_site_wait(&site, &panel, now, most); takes the moment, and reads all that is there ..
+ *         if (osdp_site_turn(&site, &panel, bytes, length, now, take_report, NULL)) {
+ *             .. takes the moment anew, into now ..
+ *             if (osdp_panel_write(&panel, now, &burst) == OSDP_OK) {
+ *                 .. writes the burst, whole, where it has a length, and flushes it ..
+ *             }
  *         }
- *         osdp_site_act(&site, &panel, now);
- *         osdp_panel_tick(&panel, now, &burst);            and the reports that it left are taken as those above
  *     }
  */
 #ifndef OSDP_SITE_H
@@ -38,8 +38,6 @@ enum {
     OSDP_SITE_ROOM = 16,
     /* From a session that has ended to the next one, in milliseconds, where the program sets no other pause. */
     OSDP_SITE_PAUSE = 1000,
-    /* How late a turn may come, in milliseconds, where the program sets no other time. */
-    OSDP_SITE_LATE = 5000,
     /* The data of a state, in bytes, at most: those of the longest text. */
     OSDP_SITE_MOST_DATA = 261,
     /* The `bytes` of a site over a panel of `osdp_panel_new`, which has room for each command, however long it is. */
@@ -77,23 +75,18 @@ struct osdp_site_entry {
     /* Since when it is online, or offline. */
     uint64_t since;
     bool is_online;
-    /* Whether its session is let end (`osdp_site_leave`). */
-    bool is_left;
     /* How many states are wanted, and how many of these, from the first on, were submitted since the session opened. */
     uint16_t count, done;
     struct osdp_site_state wanted[OSDP_SITE_ROOM];
 };
 
-/* A site. `pause` and `late` may be set by the caller. */
+/* A site. `pause` may be set by the caller. */
 typedef struct osdp_site {
     struct osdp_site_entry *entries;
     size_t count;
     /* As handed to `osdp_site_new`. */
     size_t bytes;
     uint32_t pause;
-    uint32_t late;
-    /* When the turn after the last one was due; UINT64_MAX where there was none. */
-    uint64_t due;
 } osdp_site;
 
 /*
@@ -120,9 +113,9 @@ osdp_site_status osdp_site_wants(osdp_site *site, size_t entry, const struct osd
 bool osdp_site_heed(osdp_site *site, const struct osdp_report *report, uint64_t now);
 
 /*
- * Begins each session that is due. Orders that wait for its device are stale, and are taken back: a program that is to be told of them withdraws them
- * before. Then what is wanted of each device that is online, and wasn't submitted since its session opened, goes to the panel in the order in which it was
- * wanted. What the panel refuses, as where its queue is full, and what comes after it is left for the next call: it waits for room that other commands take.
+ * Begins each session that is due. What waits for its device is taken back, orders too, since no state is to go out twice: a program that is to be told of its
+ * orders withdraws them before, as it takes the report that their session was lost. Then what is wanted of each device that is online, and wasn't submitted since its session opened, goes to the panel in the order in which it was
+ * wanted, and is never too late. What the panel refuses, as where its queue is full, and what comes after it is left for the next call: it waits for room that other commands take.
  * At a moment that the panel refuses (OSDP_MOMENT_TOO_FAR) no order is taken back, and the sessions stay due.
  */
 void osdp_site_act(osdp_site *site, osdp_panel *panel, uint64_t now);
@@ -140,20 +133,11 @@ bool osdp_site_is_refreshed(const osdp_site *site, size_t entry);
 uint64_t osdp_site_wait(const osdp_site *site, osdp_panel *panel, uint64_t now, uint64_t most);
 
 /*
- * An order: a command that is submitted once. Whether the panel took it. One for a device that is offline, or whose session is let end, is refused, since it would be
- * stale once that is online again.
+ * An order: a command that is submitted once, and goes out at no moment after `until`. Whether the panel took it; then its number is written to `order`. One for a device
+ * that is offline is refused.
  */
-bool osdp_site_order(const osdp_site *site, osdp_panel *panel, size_t entry, const struct osdp_message *command);
-
-/*
- * Lets each session end that is open, as there is no call for it: nothing more is said to its device, until it is lost. For a program that stood still, or that has
- * not written a burst since it was late: the panel would send an order of long ago again, those that wait would go out late, and a device would repeat a card of long
- * ago. The order that was under way is told lost, and those that wait are taken back before the next session begins.
- */
-void osdp_site_leave(osdp_site *site);
-
-/* Leaves a burst out where it is for a device whose session is let end. `osdp_site_turn` does this by itself. */
-void osdp_site_silence(const osdp_site *site, osdp_panel *panel, struct osdp_burst *burst);
+bool osdp_site_order(
+    const osdp_site *site, osdp_panel *panel, size_t entry, const struct osdp_message *command, uint64_t until, uint64_t *order);
 
 /* ---- A turn of a loop ---- */
 
@@ -165,15 +149,14 @@ typedef void osdp_site_takes(void *of, const struct osdp_report *report, bool ha
 
 /*
  * One turn of a panel's loop: the program has waited for bytes, has taken the moment, and then has read all that was there. Each report is heeded and then taken by the
- * program, what the program wants and orders then is submitted, and what is due is written to `burst`, which goes out before the next turn. The program takes the moment
- * once more right before it writes: a burst that is late isn't written, and then it calls `osdp_site_leave`.
+ * program, what the program wants and orders then is submitted, and what is due is done. Whether a burst is to go out: then the program takes the moment anew, and
+ * writes what `osdp_panel_write` gives for it.
  *
- * Where the turn comes more than `late` milliseconds after it was due, the program stood still: its computer slept, or it was stopped, or what it did took so long. Then
- * the bytes are left, as a line may lose them, since a card among them may be of long ago, and each open session is let end. A moment that lies too far after the
- * greatest one seen (OSDP_MOMENT_TOO_FAR) is seen all the same by `osdp_panel_set_moment`, and is such a turn too.
+ * A program that stood still, since its computer slept, it was stopped, or what it did took so long, takes its turn as any other. An order whose `until` has passed
+ * doesn't go out, and an event tells by its `since` how old it may be. A moment that lies too far after the greatest one seen (OSDP_MOMENT_TOO_FAR) is seen all the
+ * same, by `osdp_panel_set_moment`.
  */
-void osdp_site_turn(
-    osdp_site *site, osdp_panel *panel, const uint8_t *bytes, size_t length, uint64_t now, osdp_site_takes *takes, void *of, struct osdp_burst *burst);
+bool osdp_site_turn(osdp_site *site, osdp_panel *panel, const uint8_t *bytes, size_t length, uint64_t now, osdp_site_takes *takes, void *of);
 
 /*
  * What a program does with what its device says: it acts, and then writes `answer->burst`. What it sets for a command that is pending is answered. `of` is what it

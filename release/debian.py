@@ -16,6 +16,37 @@ No licence has been chosen yet: read it and try it, and ask its makers before yo
 """
 # Python leaves compiled modules in the package's folder
 PRERM = "#!/bin/sh\nset -e\nrm -rf /usr/lib/python3/dist-packages/osdp/__pycache__\n"
+# The services have a user of their own, who may use ports and has the stores
+SERVICE = {
+    "postinst": """#!/bin/sh
+set -e
+if [ "$1" = configure ]; then
+    getent passwd osdp >/dev/null || adduser --system --quiet --group --home /var/lib/osdp --no-create-home osdp
+    adduser --quiet osdp dialout
+    install -d -o osdp -g osdp -m 0750 /var/lib/osdp
+    install -d -m 0755 /etc/osdp
+    [ ! -d /run/systemd/system ] || systemctl daemon-reload
+fi
+""",
+    "prerm": """#!/bin/sh
+set -e
+if [ "$1" = remove ] && [ -d /run/systemd/system ]; then
+    systemctl stop 'osdp-line@*.service'
+fi
+""",
+    # stores and configurations stay where there are any
+    "postrm": """#!/bin/sh
+set -e
+if [ "$1" = purge ]; then
+    for folder in /etc/osdp /var/lib/osdp; do
+        [ ! -d "$folder" ] || rmdir --ignore-fail-on-non-empty "$folder"
+    done
+    if [ ! -d /var/lib/osdp ] && command -v deluser >/dev/null; then
+        deluser --quiet --system osdp
+    fi
+fi
+""",
+}
 
 
 class Package(NamedTuple):
@@ -42,6 +73,11 @@ PACKAGES = (
             """page at an OSDP line: find, set up, try and watch devices in a browser
  osdp-port page prints an address of this computer. There a browser finds the
  devices of a line, sets them up, runs a panel, tests them, and keeps traces."""),
+    Package("osdp-service", "electronics", False, "osdp (= {version}), python3-paho-mqtt, adduser", "Suggests: mosquitto\n",
+            """OSDP lines as services: orders and events by a broker of MQTT
+ osdp-port --config FILE serve is the panel of a line. Orders come from a broker
+ of MQTT 5, each by a key and with a time, and outcomes and events go there.
+ A unit for systemd runs it for each line. BROKER.md has the topics."""),
     Package("libosdp0", "libs", True, "libc6 (>= {libc})", "",
             """panel and reader of an OSDP line: shared library
  The machines of a panel, of a device and of a listener on a line of OSDP (Open
@@ -76,6 +112,9 @@ PLACES = (
     ("share/osdp/rust/lib/", None, ""),
     ("share/osdp/rust/", "librust-osdp-dev", "usr/share/cargo/registry/osdp-{version}/"),
     ("share/osdp/port/osdp_port/page/", "osdp-page", "usr/share/osdp/port/osdp_port/page/"),
+    ("share/osdp/port/osdp_port/serve/", "osdp-service", "usr/share/osdp/port/osdp_port/serve/"),
+    ("share/osdp/service/osdp-line@.service", "osdp-service", "lib/systemd/system/osdp-line@.service"),
+    ("share/osdp/service/", "osdp-service", "usr/share/osdp/service/"),
     ("share/osdp/", "osdp", "usr/share/osdp/"),
 )
 
@@ -140,6 +179,8 @@ def control_files(package, files, version):
     if package.name == "libosdp0":
         found["shlibs"] = (f"libosdp 0 libosdp0 (>= {version})\n".encode(), 0o644)
         found["triggers"] = (b"activate-noawait ldconfig\n", 0o644)
+    if package.name == "osdp-service":
+        found |= {name: (text.encode(), 0o755) for name, text in SERVICE.items()}
     if package.name == "python3-osdp":
         found["prerm"] = (PRERM.encode(), 0o755)
     return found

@@ -25,23 +25,24 @@ _osdp() {
 _osdp_port() {
   local word=${COMP_WORDS[COMP_CWORD]} before=${COMP_WORDS[COMP_CWORD - 1]} command= each
   for each in "${COMP_WORDS[@]:1:COMP_CWORD - 1}"; do
-    case $each in monitor | show | panel | reader | find | test | trace | page) command=${command:-$each} ;; esac
+    case $each in monitor | show | panel | reader | find | test | trace | page | serve) command=${command:-$each} ;; esac
   done
   case $before in
-    --keep | --trace | --osdp) COMPREPLY=($(compgen -f -- "$word")); return ;;
-    --address | --every | --late | --size | --may | --set-address | --set-rate | --listen | --alone) COMPREPLY=(); return ;;
+    --keep | --config | --trace | --osdp) COMPREPLY=($(compgen -f -- "$word")); return ;;
+    --address | --every | --until | --late | --size | --may | --set-address | --set-rate | --listen | --alone) COMPREPLY=(); return ;;
   esac
   if [[ $word == -* ]]; then
     case $command in
-      '') each='--all --address --every --live --json --keep --new --late --trace --size --osdpcap --may --go-on --sum --tap --set-address --set-rate --demo --listen --alone --plain --osdp --help --version' ;;
+      '') each='--all --address --every --live --json --keep --new --config --check --until --late --trace --size --osdpcap --may --go-on --sum --tap --set-address --set-rate --demo --listen --alone --plain --osdp --help --version' ;;
       monitor) each='--all --address --every --live --json --plain --osdp' ;;
       show) each='--all --address --plain --osdp' ;;
-      panel) each='--all --keep --new --late --trace --size --osdpcap --plain --osdp' ;;
+      panel) each='--all --keep --new --until --trace --size --osdpcap --plain --osdp' ;;
       reader) each='--all --keep --new --late --trace --size --osdpcap --plain --osdp' ;;
       find) each='--set-address --set-rate --plain --osdp' ;;
       test) each='--trace --may --go-on --sum --tap --plain --osdp' ;;
       trace) each='--size --osdpcap --plain --osdp' ;;
       page) each='--trace --demo --listen --alone --plain --osdp' ;;
+      serve) each='--new --config --check --plain --osdp' ;;
     esac
     COMPREPLY=($(compgen -W "$each" -- "$word"))
   elif [[ $before == test ]]; then
@@ -51,7 +52,7 @@ _osdp_port() {
   elif [[ $before == /dev/* || $before == *://* ]]; then
     COMPREPLY=($(compgen -W '9600 19200 38400 57600 115200 230400' -- "$word"))
   elif [[ $command == '' && ( $before =~ ^[0-9]+$ || $before == help ) ]]; then
-    COMPREPLY=($(compgen -W 'monitor show panel reader find test trace page' -- "$word"))
+    COMPREPLY=($(compgen -W 'monitor show panel reader find test trace page serve' -- "$word"))
   elif [[ $command == '' ]]; then
     each=$(compgen -G '/dev/ttyUSB*'; compgen -G '/dev/ttyACM*'; compgen -G '/dev/serial/by-id/*')
     COMPREPLY=($(compgen -W "$each" -- "$word"))

@@ -40,9 +40,10 @@ FROM_WINDOWS = "\ufeffdevice 5\r\n# a\x0bb\u2028c\r\nsend ID 0\r\nexpect PDID\r\
 PLACES = 2000  # how often the answer is looked for
 LEFT = "what is left of the test wasn't done"
 CUT_OFF = (["test", "script", "SCRIPT"], ["test", "device", "5"], ["test", "panel", "6"])
-WORDS = ((["test", "script"], "word 4, script: device ADDRESS, as device 5, panel ADDRESS, or script FILE"), (["test", "script", "a", "b"], "word 6, b: nothing more stands there"),
+WORDS = ((["test", "script"], "the following arguments are required: FILE"), (["test", "script", "a", "b"], "b: nothing more stands there"),
          (["--may", "out:0", "test", "script", "a"], "--may is no option of test script: a line of the script says it"),
-         (["--tap", "test", "script", "a"], "--tap is no option of test script: a line of the script says it"))
+         (["--tap", "test", "script", "a"], "--tap is no option of test script"),
+         (["--sum", "test", "script", "a"], "--sum is no option of test script: a line of the script says it"))
 faults = 0
 
 

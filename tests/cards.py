@@ -5,12 +5,14 @@
 
 Each reader has as many orders as its panel takes, all the time, and a card now and then. Each card is reported within its bound, which is worked out here from the manual
 of `osdp plan`. With an order less some card takes longer: so the run can fail. Orders are settled in the order in which they were given, each once."""
+import re
 import subprocess
 import sys
 
 READ_IN = 7  # from a packet that is handed out to its answer, in milliseconds
 POLL, LATE = 50, 0
 RUNS = ((1, 60), (3, 30), (16, 6))  # how many readers, and for how many seconds of that clock
+TOLD = re.compile(r"(?:order (?P<number>\d+) )?(?P<name>[a-z-]+)(?: (?P<which>\S+))?(?: since (?P<since>\d+))?(?: (?P<text>.*))?")
 faults = []
 
 
@@ -53,7 +55,7 @@ class Run:
         self.is_open = [False] * readers
         self.count = 0
         for at in range(readers):
-            self.does(f"add {at}")
+            self.does(f"add {at} 1")
         for at in range(readers):
             self.does(f"begin {at + 1}")
 
@@ -66,10 +68,11 @@ class Run:
         *answer, last = self.panel.call(line)
         self.due = None if last == "due none" else int(last.split()[1])
         for told in answer:
-            self.heed(*told.split(maxsplit=2))
+            found = TOLD.fullmatch(told)
+            self.heed(*(found[each] for each in ("number", "name", "which", "since", "text")))
         return answer
 
-    def heed(self, name, which, text=""):
+    def heed(self, number, name, which, since, text):
         if name == "send":
             self.sends(which)
         elif name == "opened":
@@ -77,14 +80,14 @@ class Run:
         elif name == "settled":
             at = int(which) - 1
             first = self.given[at].pop(0)
-            if text != f"{first} = ACK":
-                faults.append(f"{text} is settled where {first} comes first")
+            if (number, text) != (first[0], f"{first[1]} = ACK"):
+                faults.append(f"{number} {text} is settled where {first} comes first")
             self.settled += 1
         elif name == "event":
             at = int(which) - 1
             card, moment, before = self.cards[at].pop(0)
-            if text != card:
-                faults.append(f"{text} is reported where {card} comes first")
+            if text != card or not moment <= int(since) <= self.now:
+                faults.append(f"{text} since {since} is reported at {self.now} where {card} of {moment} comes first")
             took = self.now - moment
             self.reported += 1
             self.worst[before] = max(self.worst.get(before, 0), took)
@@ -107,9 +110,10 @@ class Run:
             while self.is_open[at]:
                 self.count += 1
                 order = f"OUT 0:5:{self.count % 60000 + 1}"
-                if any(told.startswith("refused C3") for told in self.does(f"submit {at + 1} {order}")):
+                told = self.does(f"submit {at + 1} never {order}")
+                if "refused C3" in told:
                     break
-                self.given[at].append(order)
+                self.given[at].append((told[0].split()[1], order))
 
     def card(self, at):
         self.count += 1
@@ -133,8 +137,8 @@ class Run:
                     self.card(cards_at // 7 % len(self.readers))
                 cards_at += 997
             self.orders()
-            if self.due is not None and self.due <= self.now:
-                self.does("tick")
+            if self.due is not None and self.due <= self.now and "burst" in self.does("tick"):
+                self.does("write")
         for program in (self.panel, *self.readers):
             program.end()
         return self

@@ -9,13 +9,15 @@ work=$(mktemp -d)
 trap 'rm -rf "$work"' EXIT
 folder=$(cd "$(dirname "$0")" && pwd)
 
-"${CC:-cc}" -O1 -shared -fPIC -o "$work/refuse.so" "$folder/refuse.c" || exit 1
+refuses=$work/refuse.so
+"${CC:-cc}" -O1 -shared -fPIC -o "$refuses" "$folder/refuse.c" || exit 1
 "${CC:-cc}" -O1 -shared -fPIC -o "$work/held.so" "$folder/held.c" || exit 1
 
-# Tells a fault. It is kept in a file, since a case that is fed by a pipe runs in a shell of its own.
+# Tells a fault. It is kept in a file, since a case runs in a shell of its own.
+faults=$work/faults
 fault() {
   echo "$1"
-  : >"$work/faults"
+  : >"$faults"
 }
 
 # Runs the program with the request of number $1 refused; the words follow. Standard input is $work/in.
@@ -23,15 +25,16 @@ refused_run() {
   local number=$1
   shift
   rm -f "$work/mark"
-  LD_PRELOAD="$work/refuse.so" REFUSED_REQUEST=$number REFUSED_MARK="$work/mark" \
+  LD_PRELOAD="$refuses" REFUSED_REQUEST=$number REFUSED_MARK="$work/mark" \
     "$program" "$@" <"$work/in" >"$work/out" 2>"$work/err"
 }
 
 # $1: what is tried; $2: the fewest requests that the program must make, so that the library is known to count;
-# the rest: the words. Standard input is the caller's.
+# the rest: the words. Standard input is the caller's. The cases run side by side, each with files of its own.
 refuse_each() {
-  local name=$1 fewest=$2
+  local name=$1 fewest=$2 own
   shift 2
+  own=$(mktemp -d -p "$work") && local work=$own
   cat >"$work/in"
   "$program" "$@" <"$work/in" >"$work/right_out" 2>"$work/right_err"
   local right=$? after number got
@@ -76,46 +79,46 @@ capture() {
 # The same as bytes.
 bytes() { printf "$(capture | sed 's/^#.*//; s/ //g; s/../\\x&/g' | tr -d '\n')"; }
 
-capture | refuse_each 'show' 3 show
-capture | refuse_each 'show, joined' 3 show --join
-bytes | refuse_each 'show, raw' 3 show --raw
-capture | refuse_each 'check' 3 check
-capture | refuse_each 'check, both options' 3 check --raw --join
-{ capture; echo 5; } | refuse_each 'show, a bad line' 3 show
+capture | refuse_each 'show' 3 show &
+capture | refuse_each 'show, joined' 3 show --join &
+bytes | refuse_each 'show, raw' 3 show --raw &
+capture | refuse_each 'check' 3 check &
+capture | refuse_each 'check, both options' 3 check --raw --join &
+{ capture; echo 5; } | refuse_each 'show, a bad line' 3 show &
 objects() { capture | sed '/^#/d; s/.*/{"timeSec":"1","timeNano":"2","io":"input","data":"&"}/'; }
-objects | refuse_each 'show, objects' 10 show --osdpcap
-{ objects; echo '{"data":"5"}'; } | refuse_each 'check, objects, a bad line' 10 check --osdpcap
-objects | refuse_each 'monitor, objects' 10 monitor --osdpcap
-{ printf '00000000: '; capture | sed '/^#/d' | head -n 1; } | refuse_each 'show, a dump' 5 show --xxd
-capture | sed '/^#/d; s/^/1 RX /' | refuse_each 'show, stamped' 5 show --stamped
+objects | refuse_each 'show, objects' 10 show --osdpcap &
+{ objects; echo '{"data":"5"}'; } | refuse_each 'check, objects, a bad line' 10 check --osdpcap &
+objects | refuse_each 'monitor, objects' 10 monitor --osdpcap &
+{ printf '00000000: '; capture | sed '/^#/d' | head -n 1; } | refuse_each 'show, a dump' 5 show --xxd &
+capture | sed '/^#/d; s/^/1 RX /' | refuse_each 'show, stamped' 5 show --stamped &
 # A listener takes a block for each address, and lines or text that grow.
 listened() { cat "$(dirname "$0")/../examples/two_readers.hex"; echo 53070700006040; }
-listened | refuse_each 'monitor' 5 monitor
-listened | refuse_each 'monitor, with packets' 5 monitor --packets --hex
+listened | refuse_each 'monitor' 5 monitor &
+listened | refuse_each 'monitor, with packets' 5 monitor --packets --hex &
 timed() { listened | awk '/^#/ { next } { printf "# %d.%03d %s\n%s\n", NR / 10, NR % 10 * 100, NR % 2 ? "out" : "in", $0 }'; }
-timed | refuse_each 'monitor, with moments' 10 monitor --times
-{ timed; echo 5; } | refuse_each 'monitor, with moments, a bad line' 10 monitor --times
+timed | refuse_each 'monitor, with moments' 10 monitor --times &
+{ timed; echo 5; } | refuse_each 'monitor, with moments, a bad line' 10 monitor --times &
 # A POLL that comes back, and its answer.
 echoed() { printf '# 1.000 out\n53050700006041\n# 1.001 in\n53050700006041\n# 1.020 in\n538507000040E1\n'; }
-echoed | refuse_each 'monitor, with an echo' 10 monitor --times
-{ timed; echoed; } | refuse_each 'monitor, as JSON with an echo' 15 monitor --times --json
-objects | refuse_each 'monitor, objects with moments' 10 monitor --osdpcap --times
-listened | refuse_each 'monitor, as JSON' 10 monitor --json --hex
-timed | refuse_each 'monitor, as JSON with moments' 15 monitor --times --json
-bytes | refuse_each 'monitor, bytes' 5 monitor --packets --raw
-{ listened; echo 5; } | refuse_each 'monitor, a bad line' 5 monitor --hex
-refuse_each 'monitor, bad words' 1 monitor --gap 0 </dev/null
-refuse_each 'make' 3 make 5 1 crc OUT 0:2:0 </dev/null
-refuse_each 'make, a long text' 3 make 5 1 sum MFG 53494D "$(printf '%02858d' 0)" </dev/null
-refuse_each 'make, bad words' 3 make 5 4 sum POLL </dev/null
+echoed | refuse_each 'monitor, with an echo' 10 monitor --times &
+{ timed; echoed; } | refuse_each 'monitor, as JSON with an echo' 15 monitor --times --json &
+objects | refuse_each 'monitor, objects with moments' 10 monitor --osdpcap --times &
+listened | refuse_each 'monitor, as JSON' 10 monitor --json --hex &
+timed | refuse_each 'monitor, as JSON with moments' 15 monitor --times --json &
+bytes | refuse_each 'monitor, bytes' 5 monitor --packets --raw &
+{ listened; echo 5; } | refuse_each 'monitor, a bad line' 5 monitor --hex &
+refuse_each 'monitor, bad words' 1 monitor --gap 0 </dev/null &
+refuse_each 'make' 3 make 5 1 crc OUT 0:2:0 </dev/null &
+refuse_each 'make, a long text' 3 make 5 1 sum MFG 53494D "$(printf '%02858d' 0)" </dev/null &
+refuse_each 'make, bad words' 3 make 5 4 sum POLL </dev/null &
 script() {
   printf '# a script\nreader 5 4\nissue 1 OUT 0:2:0\nissue 1 BUZ 0 2 5 5 1\nqueue 1 KEYPAD 0 31\n'
   printf 'clean 3\nwait 50\nto-reader damage 53\n'
 }
 
-script | refuse_each 'sim' 20 sim
-{ script; echo 'reopen 1'; } | refuse_each 'sim, a line that isn'"'"'t quiet' 20 sim
-{ script; echo 'reader 6 4'; } | refuse_each 'sim, a bad line' 10 sim
+script | refuse_each 'sim' 20 sim &
+{ script; echo 'reopen 1'; } | refuse_each 'sim, a line that isn'"'"'t quiet' 20 sim &
+{ script; echo 'reader 6 4'; } | refuse_each 'sim, a bad line' 10 sim &
 
 # Two readers, whose sessions open, and a command to each.
 two_readers() {
@@ -124,9 +127,13 @@ two_readers() {
   printf 'wait 0\nto-reader repeat\nto-controller drop\nwait 200\nto-reader deliver\nto-controller deliver\n'
 }
 
-two_readers | refuse_each 'sim, two readers' 30 sim
-{ two_readers; echo 'to-controller damage 53000700006046'; } | refuse_each 'sim, two readers, damage' 30 sim
-refuse_each 'bad words' 1 show --all </dev/null
+two_readers | refuse_each 'sim, two readers' 30 sim &
+{ two_readers; echo 'to-controller damage 53000700006046'; } | refuse_each 'sim, two readers, damage' 30 sim &
+refuse_each 'bad words' 1 show --all </dev/null &
+
+for case in $(jobs -p); do
+  wait "$case" || fault 'a case has not come to its end'
+done
 
 # $1: how many lines; $2: what they say. Tells how many bytes the program holds at most on a script of a reader and these lines.
 held() {

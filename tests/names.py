@@ -186,11 +186,10 @@ def texts_in_rust():
 
 
 def judge_site():
-    """The constants of include/osdp_site.h: by the crate in Rattle, by the longest text (255 characters after six bytes), and by their comments, as `P5: ..`. The five seconds of LATE have
-    no other definition."""
+    """The constants of include/osdp_site.h: by the crate in Rattle, by the longest text (255 characters after six bytes), and by their comments, as `P5: ..`."""
     text, crate = ((TOP / name).read_text() for name in ("include/osdp_site.h", "crates/osdp_site/src/site.rt"))
     constants = {name: int(number) for name, number in re.findall(r"OSDP_SITE_(\w+) = (\d+)", text)}
-    wanted = {name.upper(): int(number) for name, number in re.findall(r"^            (pause|room): (\d+),$", crate, re.M)} | {"MOST_DATA": 6 + 255, "ANY_LENGTH": 0, "OK": 0, "LATE": 5000}
+    wanted = {name.upper(): int(number) for name, number in re.findall(r"^            (pause|room): (\d+),$", crate, re.M)} | {"MOST_DATA": 6 + 255, "ANY_LENGTH": 0, "OK": 0}
     wanted |= {name: int(number) for number, name in re.findall(r"/\* P(\d): [^*]*\*/\n    OSDP_SITE_(\w+) =", text)}
     compare("constant OSDP_SITE", constants, wanted, "crates/osdp_site and the comments")
 

@@ -183,6 +183,8 @@ def losses(tab):
     tab.fills("#demo-loss", 20)
     tab.clicks("#tab-line")
     tab.waits("[...document.querySelectorAll('#counts tbody tr')].every((row) => Number(row.children[3].textContent) > 1)", what="repeats are counted")
+    told = tab.waits("/loses/.test(document.querySelector('#diagnoses').innerText) && /no answer in time/.test(document.querySelector('#told').innerText) && document.querySelector('#panel-line').innerText", what="losses are told")
+    asks(re.search(r"^device [56] loses \d+% of answers$", told, re.M) and "A session with the device began." in told, f"what is told of losses: {told!r}")
     picture(tab, "line")
 
 
@@ -270,7 +272,7 @@ def loses_line(tab, line):
     asks(tab.evaluates("!document.querySelector('form[data-output]')"), "a device that is offline has buttons")
     tab.clicks("#tab-line")
     advised = tab.waits("/two wires/.test(document.querySelector('#diagnoses').innerText) && document.querySelector('#diagnoses').innerText", 10, "what to do is said")
-    asks("its power, or the two wires" in advised, f"what to do: {advised!r}")
+    asks("its power, or the two wires" in advised and "by Find" in advised and "osdp-port" not in advised, f"what to do: {advised!r}")
     time.sleep(max(0, begun + 10 - time.monotonic()))
     line.loses = crc_alone
     tab.clicks("#tab-devices")
@@ -286,7 +288,7 @@ def tests(tab, folder):
     tab.waits("/The test is over/.test(document.querySelector('#test-status').innerText)", 120, "the test ends")
     verdicts = tab.evaluates("[...document.querySelectorAll('#verdicts li')].map((each) => each.textContent)")
     left = tab.evaluates("[...document.querySelectorAll('#left-out li')].map((each) => each.textContent)")
-    asks(any("be silent for 8 seconds" in each for each in left), f"what is left out: {left}")
+    asks(all(f"rule {rule}, which isn't allowed above: {what}" in " ".join(left) for rule, what in ((18, "be silent for 8 seconds"), (50, "switch output 0 off"), (96, "switch output 0 on for a second"))), f"what is left out: {left}")
     broken = [each for each in verdicts if re.match(r"\d+ broken", each) and not each.startswith("85 ")]  # rule 85 goes by the clock: a busy machine breaks it
     counts = re.fullmatch(r"rules (\d+) ok (\d+) .*broken (\d+) .*skipped (\d+)", verdicts[-1] if verdicts else "")
     asks(bool(counts) and int(counts[2]) > 30 and broken == [] and int(counts[4]) == len(left), f"the verdicts: {broken}, {verdicts[-1:]}, {len(left)} left out")

@@ -11,6 +11,8 @@ from types import SimpleNamespace
 
 sys.dont_write_bytecode = True
 sys.path.insert(0, str(Path(__file__).resolve().parent.parent / "port"))
+from osdp_port import turns  # noqa: E402
+from osdp_port.console import Typed  # noqa: E402
 from osdp_port.page import desk, pages  # noqa: E402
 from osdp_port.page.commands import checked  # noqa: E402
 from osdp_port.page.formats import card_of, formats_of, masked  # noqa: E402
@@ -38,64 +40,83 @@ def made(session="open"):
     return made, device, told
 
 
+def gives(at, number, address=5, order=None, since=300):
+    at.gives(number, address, order or OPEN_FOR_3_S, since)
+
+
+def taken(at, number, text="OUT 0:5:30"):
+    """The panel takes the order of device 5 that it was handed, by a number of its own. What it was handed."""
+    lines = at.lines()
+    at.heard(f"order {number} waits 5 {text}")
+    return lines
+
+
+OPENS = Typed("5 OUT 0:5:30", 300)
+
+
 def states(told, number):
     return [state for each, state, _ in told if each == number]
 
 
 def ends_of_orders():
     """An order that the panel has gets the end that the panel tells."""
-    for line, wanted in (("settled 5 OUT 0:5:30 = ACK", "answered"), ("settled 5 OUT 0:5:30 = OSTATR 01", "answered"), ("settled 5 OUT 0:5:30 = NAK 9", "refused"), ("unread 5 code 50 OUT 0:5:30", "unread"),
-                         ("lost 5 no-reply OUT 0:5:30", "in doubt"), ("withdrawn 5 OUT 0:5:30", "taken back"), ("not taken 5 OUT 0:5:30: the port isn't there", "refused")):
+    for line, wanted in (("order 9 settled 5 OUT 0:5:30 = ACK", "answered"), ("order 9 settled 5 OUT 0:5:30 = OSTATR 01", "answered"), ("order 9 settled 5 OUT 0:5:30 = NAK 9", "refused"),
+                         ("order 9 unread 5 code 50 OUT 0:5:30", "unread"), ("order 9 lost 5 no-reply OUT 0:5:30", "in doubt"), ("order 9 lost 5 no-reply withheld OUT 0:5:30: too old", "in doubt"),
+                         ("order 9 withdrawn 5 OUT 0:5:30", "taken back"), ("order 9 expired 5 OUT 0:5:30: too old", "expired"), ("not taken 5 OUT 0:5:30: the port isn't there", "refused")):
         at, device, told = made()
-        at.gives(1, 5, OPEN_FOR_3_S)
-        asks(at.lines(), ["5 OUT 0:5:30"], "an order goes to the panel")
-        if wanted != "refused" or "NAK" in line:
+        gives(at, 1)
+        is_taken, is_sent = not line.startswith("not taken"), not line.startswith("not taken") and wanted != "expired"
+        asks(taken(at, 9) if is_taken else at.lines(), [OPENS], "an order goes to the panel")
+        if is_sent:
             at.sent(bytes.fromhex("53050E000568"))  # not a whole packet: it says nothing
             at.sent(bytes.fromhex("53050900056800051E"))
+        for other in ("order 8 settled 5 OUT 0:5:30 = ACK", "not taken 5 OUT 0:5:30: another one") if is_taken else ():
+            at.heard(other)
+        asks(list(at.current), [5], "what is told of another order")
         at.heard(line)
         asks((states(told, 1)[0], states(told, 1)[-1], at.current), ("waiting", wanted, {}), f"an order, and {line}")
-        asks("on the line" in states(told, 1), "not taken" not in line, f"an order on the line, and {line}")
+        asks("on the line" in states(told, 1), is_sent, f"an order on the line, and {line}")
+        asks("too old to be sent again" in told[-1][2], "withheld" in line, f"why an order is in doubt, and {line}")
 
 
 def waiting_orders():
-    """One order of a device goes out at a time. One that waits is taken back, or expires, or is refused with a device that isn't online."""
+    """One order of a device goes out at a time, with the moment at which it was given. One that waits is taken back, or is refused with a device that isn't online."""
     at, device, told = made()
     for number in (1, 2, 3, 4):
-        at.gives(number, 5, OPEN_FOR_3_S)
-    asks((at.lines(), at.lines()), (["5 OUT 0:5:30"], []), "of four orders one goes out")
+        gives(at, number, since=300 + number)
+    asks((taken(at, 9), at.lines()), ([Typed("5 OUT 0:5:30", 301)], []), "of four orders one goes out")
     at.takes_back(3)
     at.lines()
     asks(states(told, 3), ["waiting", "taken back"], "an order that waits is taken back")
     at.takes_back(1)
     at.lines()
     asks(states(told, 1), ["waiting"], "an order that the panel has isn't taken back")
-    at.heard("settled 5 OUT 0:5:30 = ACK")
-    asks(at.lines(), ["5 OUT 0:5:30"], "then the next one goes out")
-    for order in at.waiting[5]:
-        order.since -= desk.EXPIRES
-    asks((at.lines(), states(told, 4)), ([], ["waiting", "expired"]), "an order that has waited five seconds")
-    at.gives(5, 5, OPEN_FOR_3_S)
+    at.heard("order 9 settled 5 OUT 0:5:30 = ACK")
+    asks(taken(at, 10), [Typed("5 OUT 0:5:30", 302)], "then the next one goes out")
+    at.heard("order 10 expired 5 OUT 0:5:30: it grew too old")
+    asks((states(told, 2), taken(at, 11)), (["waiting", "expired"], [Typed("5 OUT 0:5:30", 304)]), "an order that has grown too old")
+    gives(at, 5)
     at.lines()
-    at.heard("lost 5 no-reply OUT 0:5:30")
-    asks((states(told, 2)[-1], states(told, 5)[-1]), ("in doubt", "taken back"), "orders of a session that is lost")
+    at.heard("order 11 lost 5 no-reply OUT 0:5:30")
+    asks((states(told, 4)[-1], states(told, 5)[-1]), ("in doubt", "taken back"), "orders of a session that is lost")
     for session, address in (("closed", 5), ("begun", 5), ("open", 6)):
         at, device, told = made(session)
-        at.gives(1, address, OPEN_FOR_3_S)
+        gives(at, 1, address)
         asks((at.lines(), states(told, 1)), ([], ["refused"]), f"an order for {address}, whose session is {session}")
 
 
 def the_end():
-    """Nobody is there, the program stood still, or the panel ends: what waits is taken back, and what was on the line is in doubt."""
-    for ends in (lambda at: (at.takes_back(), at.lines()), lambda at: at.takes_back_all("the program stood still"), lambda at: at.over()):
+    """Nobody is there, or the panel ends: what waits is taken back, and what was on the line is in doubt."""
+    for ends in (lambda at: (at.takes_back(), at.lines()), lambda at: at.over()):
         at, device, told = made()
-        at.gives(1, 5, OPEN_FOR_3_S)
-        at.gives(2, 5, OPEN_FOR_3_S)
-        at.lines()
+        gives(at, 1)
+        gives(at, 2)
+        taken(at, 9)
         at.sent(bytes.fromhex("53050900056800051E"))
         ends(at)
         asks(states(told, 2)[-1], "taken back", "an order that waits at the end")
     asks(states(told, 1)[-1], "in doubt", "an order on the line at the end")
-    at.gives(3, 5, OPEN_FOR_3_S)
+    gives(at, 3)
     at.over()
     asks(states(told, 3), ["refused"], "an order after the end")
 
@@ -105,14 +126,19 @@ def own_questions():
     at, device, told = made()
     at.is_watched = True
     asked = []
-    for _ in range(7):
-        asked += at.lines()
-        at.heard("settled 5 X = ACK")
+    before = turns.moment()
+    for number in range(7):
+        lines = at.lines()
+        asked += [line.text for line in lines]
+        asks([before <= line.since <= turns.moment() for line in lines], [True] * len(lines), "when the page asks by itself")
+        for line in lines:
+            at.heard(f"order {number} waits {line.text}")
+        at.heard(f"order {number} settled 5 X = ACK")
     asks((asked, told), (["5 CAP 0", "5 LSTAT", "5 ISTAT", "5 OSTAT", "5 RSTAT"], []), "what the page asks by itself")
-    at.gives(1, 5, OPEN_FOR_3_S)
-    at.lines()
-    at.heard("settled 5 OUT 0:5:30 = ACK")
-    asks(at.lines(), ["5 OSTAT"], "after an output was switched the device is asked for its outputs")
+    gives(at, 1)
+    taken(at, 9)
+    at.heard("order 9 settled 5 OUT 0:5:30 = ACK")
+    asks([line.text for line in at.lines()], ["5 OSTAT"], "after an output was switched the device is asked for its outputs")
 
 
 def texts_of_orders():
@@ -130,7 +156,7 @@ def texts_of_orders():
         None, [], {}, {"do": "nobody"}, {"do": "gone"}, {"do": "listens"}, {"do": "panel", "addresses": [5, 5], "rate": 9600, "check": "crc", "wait": 200},
         {"do": "panel", "addresses": [], "rate": 9600, "check": "crc", "wait": 200}, {"do": "panel", "addresses": list(range(17)), "rate": 9600, "check": "crc", "wait": 200}, {"do": "panel", "addresses": [127], "rate": 9600, "check": "crc", "wait": 200},
         {"do": "panel", "addresses": [5], "rate": 9601, "check": "crc", "wait": 200}, {"do": "find", "rate": "9600"}, {"do": "find", "rate": True}, {"do": "set", "device": 0, "address": 127, "rate": 9600},
-        {"do": "test", "of": "device", "address": 5, "rate": 9600, "check": "crc", "may": ["out"]}, {"do": "test", "of": "script", "address": 5, "rate": 9600, "check": "crc", "may": []}, {"do": "trace", "on": 1},
+        {"do": "test", "of": "device", "address": 5, "rate": 9600, "check": "crc", "may": ["out"]}, {"do": "test", "of": "device", "address": 5, "rate": 9600, "check": "crc", "may": ["relay"]}, {"do": "test", "of": "script", "address": 5, "rate": 9600, "check": "crc", "may": []}, {"do": "trace", "on": 1},
         {"do": "demo", "what": "keys", "device": 0, "keys": "<script>"}, {"do": "find", "rate": []}
     ]
     commands = [{**command, "order": each} for each in bad] + others
@@ -139,6 +165,8 @@ def texts_of_orders():
             faults.append(f"a page may order {each}: {checked(each)}")
         except (desk.Bad, TypeError) as refused:
             asks(isinstance(refused, desk.Bad), True, f"how {each} is refused")
+    trial = {"do": "test", "of": "device", "address": 5, "rate": 9600, "check": "crc", "may": ["silence", "out:0", "relay:0"]}
+    asks(checked(trial), trial, "what a test may do")
     asks(checked({"do": "set", "device": 0, "address": 5, "rate": 9600, "path": "/etc"}), {"do": "set", "device": 0, "address": 5, "rate": 9600}, "a command has nothing else")
 
 
@@ -215,7 +243,7 @@ def the_package():
     with tempfile.TemporaryDirectory() as folder:
         shutil.copytree(TOP / "port", Path(folder) / "port", ignore=shutil.ignore_patterns("page", "__pycache__"))
         done = subprocess.run([Path(folder) / "port/osdp-port", "--osdp", "/bin/true", "--demo", "page"], capture_output=True, text=True, check=False)
-        asks((done.returncode, done.stderr), (127, "osdp-port: the page isn't there: call  sudo apt-get install osdp-page\n"), "without the package")
+        asks((done.returncode, done.stderr), (127, "osdp-port: the page isn't there: call  sudo apt install ./osdp-page_*.deb  where the packages are\n"), "without the package")
 
 
 def colours():

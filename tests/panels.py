@@ -25,7 +25,7 @@ from terminals import Script, Terminal, crc_packet, packet
 TOP = Path(__file__).resolve().parent.parent
 CRATES = sys.argv[3]
 OUT, RAW = 0x68, 0x50
-CARD = bytes([0, 0, 26, 0, 0x12, 0x34, 0x56, 0x40])  # one that opens doors
+CARD, OTHER = (bytes([0, 0, 26, 0]) + bytes.fromhex(card) for card in ("12345640", "65432180"))  # both open doors
 FAST = "check sum poll-interval 20 reply-wait 300 sends 2 quiet-wait 60".split()
 SETTINGS = {"fast": FAST, "the defaults": ["check", "sum"], "reply-wait 400": ["check", "sum", "reply-wait", "400"]}
 FOUND = 60.0  # after how many seconds readers that answer have not been found
@@ -486,7 +486,7 @@ def held_up(script, does=lambda: None, seconds=2 * LATE / 1000):
 
 
 def stopped_panel(c, rust, language, name):
-    """A panel that was stopped acts on no card that came before, and sends no order of before again: its session ends, and then a card opens the door."""
+    """A panel that was stopped opens no door for a card that was asked for before: its order expires. The next card opens the door."""
     what = f"stopped, {name} in {language}"
     with Line(all_words(c)) as line:
         panel = Script(f"{c if language == 'C' else rust}/{name}", "--late", LATE, line.panel_end.path, 9600)
@@ -500,10 +500,10 @@ def stopped_panel(c, rust, language, name):
         asks(device.until(panel, lambda: device.held is not None), f"{what}: there is no POLL")
         held_up(panel, lambda: device.reply(device.held, RAW, CARD))
         device.holds = False
-        asks(device.until(panel, lambda: openings() == 2), f"{what}: its session doesn't end and open again: {panel.lines[-6:]}")
         asks(device.is_polled(panel), f"{what}: it isn't polled")
+        asks(device.until(panel, lambda: any(each.lower().startswith("expired") for each in panel.lines)), f"{what}: the order doesn't expire: {panel.lines[-6:]}")
         asks(OUT not in device.orders, f"{what}: a card of before has opened the door")
-        device.card = CARD
+        device.card = OTHER
         asks(device.until(panel, lambda: OUT in device.orders), f"{what}: a card opens nothing any more")
 
 
@@ -528,7 +528,8 @@ def stopped_in_order(c, rust, language, name):
         device.deaf = None
         asks(device.is_polled(panel) and OUT not in device.orders, f"{what}: the order of before went out once more")
         asks(any(each.lower().startswith("lost") and ("OUT" in each or "code: 104" in each) for each in panel.lines), f"{what}: it isn't told lost: {panel.lines[-6:]}")
-        asks(name != "three_doors" or any(each.startswith("withdrawn 1 LED ") for each in panel.lines), f"{what}: the one that waited isn't told: {panel.lines[-6:]}")
+        told = ("withdrawn 1 LED ", "expired 1 LED ")
+        asks(name != "three_doors" or any(each.startswith(told) for each in panel.lines), f"{what}: the one that waited isn't told: {panel.lines[-6:]}")
 
 
 def stopped_order(c, _):
@@ -543,19 +544,19 @@ def stopped_order(c, _):
         device.is_silent = False
         device.orders.clear()
         asks(device.until(panel, opened(panel, 1, 2)), f"stopped order: the session doesn't open again: {panel.lines[-6:]}")
-        asks(device.orders == [] and "lost 1 no-reply OUT 0:5:30" in panel.lines, f"stopped order: ordered are {device.orders}, told is {panel.lines[-6:]}")
+        asks(device.orders == [] and "lost 1 no-reply withheld OUT 0:5:30" in panel.lines, f"stopped order: ordered are {device.orders}, told is {panel.lines[-6:]}")
         asks("not taken 1 OUT 0:5:31" in panel.lines, f"stopped order: one that was given meanwhile is taken: {panel.lines[-6:]}")
 
 
 def late_order(c, _):
-    """No copy of an order goes out later after it was given than the panel may be late, though sends are left. Its session ends, and those that wait are taken back."""
+    """No copy of an order goes out later after it was given than the panel may be late, though sends are left. Its session is lost, and those that wait are taken back."""
     with Line(all_words(c)) as line:
         slow = "check sum poll-interval 20 reply-wait 300 sends 20 quiet-wait 60".split()
         panel, device = line.panel("5", *slow, options=["--late", 1000]), Odd(line.panel_end)
         asks(device.until(panel, opened(panel, 1)), "late order: the session doesn't open")
         device.is_silent = True
         panel.say("1 OUT 0:5:30\n1 OUT 0:5:31")
-        told = ["lost 1 no-reply OUT 0:5:30", "withdrawn 1 OUT 0:5:31"]
+        told = ["lost 1 no-reply withheld OUT 0:5:30", "withdrawn 1 OUT 0:5:31"]
         asks(device.until(panel, has(panel, *told)), f"late order: its end isn't told: {panel.lines[-6:]}")
         asks(2 <= device.orders.count(OUT) <= 4, f"late order: it went out {device.orders.count(OUT)} times within a second, 300 ms from each to the next")
 
@@ -594,7 +595,7 @@ class Blocked:
 
 
 def blocked_output(c, _):
-    """An order isn't written late where nobody has read what the panel prints, so that it stood still between the answer to the order before and that one."""
+    """An order expires where nobody has read what the panel prints, so that it stood still between the answer to the order before and that one."""
     with Line(all_words(c)) as line:
         pipe = Blocked()
         slow = "check sum poll-interval 20 reply-wait 300 sends 20 quiet-wait 60".split()
@@ -608,7 +609,7 @@ def blocked_output(c, _):
         answered(device, SILENT, 1.6)  # the first order is answered, and nobody reads that it is settled
         device.orders.clear()
         pipe.said = b""
-        asks(device.until(pipe, pipe.has(b"lost 1 no-reply OUT 0:5:30\n")), f"blocked: the order isn't lost: {pipe.said}")
+        asks(device.until(pipe, pipe.has(b"epired 1 OUT 0:5:30\n")), f"blocked: the order doesn't expire: {pipe.said}")  # without the x that fills the pipe
         asks(OUT not in device.orders, "blocked: the order went out late")
         pipe.close()
 
@@ -623,9 +624,9 @@ def blocked_card(c, rust, language):
         device.card = CARD
         answered(device, SILENT, 1.6)
         pipe.said = b""
-        asks(device.until(pipe, pipe.has(b"pened")), f"blocked card, {language}: the session doesn't end and open again: {pipe.said}")
-        asks(b"ost" in pipe.said and OUT not in device.orders, f"blocked card, {language}: the door opens late: {pipe.said}")
-        device.card = CARD[:4] + bytes([0x65, 0x43, 0x21, 0x80])  # another one: the same may have been told before
+        asks(device.until(pipe, pipe.has(b"pired")), f"blocked card, {language}: the order doesn't expire: {pipe.said}")
+        asks(OUT not in device.orders, f"blocked card, {language}: the door opens late: {pipe.said}")
+        device.card = OTHER
         asks(device.until(pipe, lambda: OUT in device.orders), f"blocked card, {language}: a card opens nothing any more: {pipe.said}")
         pipe.close()
 

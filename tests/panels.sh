@@ -11,7 +11,7 @@ examples/c/build "$work" -Werror || exit 1
 cargo build --quiet --offline --locked --examples --manifest-path rust/Cargo.toml --target-dir "$work/target" || exit 1
 
 # a heap with room for the panel, and not for its door
-"$CC" -std=c11 -O2 -Iinclude -DOSDP_POOL=7500 -o "$work/little" examples/c/{door_panel,door,kept,owner,port,settings,trace,words}.c c/{heap_pool,osdp_site,osdp_texts}.c "$archive" ||
+"$CC" -std=c11 -O2 -Iinclude -DOSDP_POOL=8200 -o "$work/little" examples/c/{door_panel,door,kept,owner,port,settings,store,trace,words}.c c/{heap_pool,osdp_site,osdp_texts}.c "$archive" -lsqlite3 ||
   fail "door_panel was not built over a pool"
 "$work/little" /dev/null 9600 >"$work/said" 2>&1
 [ $? -eq 4 ] && [ "$(cat "$work/said")" = "out of memory" ] || fail "door_panel without memory for its door says: $(cat "$work/said")"

@@ -5,7 +5,7 @@ import signal
 import time
 from pathlib import Path
 
-from terminals import Script, Terminal, packet
+from terminals import Numbered, Terminal, packet
 
 TOP = Path(__file__).resolve().parent.parent
 PORT = TOP / "port/osdp-port"
@@ -50,7 +50,7 @@ class Line:
                 pass  # it was pulled
 
     def start(self, terminal, rate, *words, options=(), **streams):
-        script = Script(PORT, "--plain", "--osdp", osdp, *options, terminal.path, rate, *words, **streams)
+        script = Numbered(PORT, "--plain", "--osdp", osdp, *options, terminal.path, rate, *words, **streams)
         self.scripts.append(script)
         return script
 

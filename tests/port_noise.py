@@ -7,16 +7,16 @@ import time
 from pathlib import Path
 
 import line
-from terminals import Script
+from terminals import Numbered, Script
 
 TOP = Path(__file__).resolve().parent.parent
 NUMBERS = {str(address): str(number) for number, address in enumerate(line.ADDRESSES, 1)}
 REFUSED = re.compile(r"not taken (\d+) (OUT [\d:]+): .*")
-TOLD = re.compile(r"(ordered|online|settled|withdrawn|event|maybe-again|lost|unread) (\d+) ?(.*)")
-SAME = {"maybe-again": "event", "online": "opened"}
+TOLD = re.compile(r"(waits|online|settled|withdrawn|event|maybe-again|lost|unread) (\d+) ?(.*)")
+SAME = {"maybe-again": "event", "online": "opened", "waits": "ordered"}
 
 
-class Panel(Script):
+class Panel(Numbered):
     """The panel, with orders and reports by number."""
 
     def say(self, order):

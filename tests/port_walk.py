@@ -177,7 +177,7 @@ def noise():
         line.run(lambda: has(panel, "settled 5 OUT 1:2:0 = ACK")() or panel.say("5 OUT 1:2:0") or line.rests(1))
         done = [each for each in taken(reader) if "OUT 0:2:" in each]
         asks(len(done) == len(set(done)), "noise: an order was taken twice")
-        for order in [each.split(" ", 2)[2] for each in panel.lines if each.startswith("ordered")]:
+        for order in [each.split(" ", 2)[2] for each in panel.lines if each.startswith("waits")]:
             ended = [each for each in panel.lines if each.split(" = ")[0].endswith(f" {order}") and each.startswith(("settled", "lost", "withdrawn", "unread", "not taken"))]
             asks(len(ended) == 1 or order == "OUT 1:2:0", f"noise: {order} has {len(ended)} ends: {ended}")
         ends = {word: sum(each.startswith(word) and " OUT " in each for each in panel.lines) for word in ("settled", "lost", "withdrawn")}
@@ -205,7 +205,8 @@ def ctrl_c():
         panel.say("5 OUT 0:2:1\n5 OUT 0:2:2")
         line.run(lambda: any(burst[5] == OUT for _, burst in line.bursts))
         line.stops(panel)
-        asks(has(panel, "lost 5 no-reply OUT 0:2:1", "withdrawn 5 OUT 0:2:2")(), f"Ctrl-C: orders have no end in a long wait: {panel.lines[-3:]}")
+        ends = [tells(panel, f"{end} OUT 0:2:{at}") for at, end in ((1, "lost 5 no-reply withheld"), (2, "expired 5"))]
+        asks(all(end() for end in ends), f"Ctrl-C: orders have no end in a long wait: {panel.lines[-3:]}")
     with Line() as line:
         line.reader(0, 5)
         panel = line.panel("5")

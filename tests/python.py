@@ -4,6 +4,7 @@
 - Its structs, functions and numbers are those of include/osdp.h. It takes no library of another version, nor one whose structs have other sizes.
 - Each public name has a docstring, and each public call types.
 - A session between both ends: an order is done once, an event is told once, where answers are lost too; a device keeps what it is told, and lets old events go.
+- Orders have numbers, which go on, and a last moment: none goes out after it. An event tells since when it is there.
 - Each kind of report, each answer that a program sets, and the defaults of a device are those that the docstrings say; a closed machine gives its memory back.
 - Calls do their work when they are called, with no generator to be drained; bytes may be a bytearray or a memoryview; a message that is none is refused where it is made.
 - Each refusal comes as an OsdpError with its status, also to another process, and changes nothing; what ctypes would cut is no number for it.
@@ -130,6 +131,19 @@ def refused(what, status, call, *words):
         faults.append(f"{what} isn't refused")
 
 
+def sent(panel, now):
+    """What a panel has to say at a moment."""
+    return panel.write(now) if panel.tick(now) else b""
+
+
+def told_of(panel, data, now):
+    """The reports of a turn in which these bytes come. Where they have brought one, the turn sends nothing."""
+    panel.hear(data, now)
+    told = panel.reports()
+    tell("a packet in the turn that has brought a report", b"", sent(panel, now) if told else b"")
+    return told
+
+
 def judge_session(loses):
     """A panel and a device, between which the answers at these turns are lost: the order is done once, and the card told once."""
     done, told = [], []
@@ -140,7 +154,7 @@ def judge_session(loses):
         panel.begin(door, 0)
         device.event("RAW 0 1 26 12345640")
         for turn, now in enumerate(range(0, 6000, 10)):
-            for answer in device.hear(panel.tick(now), now):
+            for answer in device.hear(sent(panel, now), now):
                 done += [str(answer.command)] if answer.order is osdp.Order.ONCE else []
                 lost = answer.data and loses and loses[0] <= turn
                 if lost:
@@ -165,7 +179,7 @@ def judge_again():
         device.event("KEYPAD 0 31")
         panel.begin(door, 0)
         for now in range(0, 4000, 10):
-            burst = panel.tick(now)
+            burst = sent(panel, now)
             is_cut = told and told[-1][0] == "EVENT" and len(told) == 2
             for answer in device.hear(b"" if is_cut else burst, now):
                 panel.hear(answer.data, now)
@@ -260,7 +274,7 @@ def judge_messages():
             panel.submit_message(entry, 0x68, kind(b"\0\2\0\0")), panel.begin(entry, 0)
             device.set_inputs(kind(b"\1")), device.set_outputs(kind(b"\0")), device.set_readers(kind(b"\0")), device.event_message(0x53, kind(b"\0\1\x31"))
             for now in range(0, 2000, 10):
-                for answer in device.hear(kind(panel.tick(now)), now):
+                for answer in device.hear(kind(sent(panel, now)), now):
                     panel.hear(kind(answer.data), now)
                 told += [str(report.reply) for report in panel.reports()]
             monitor.hear(kind(identify))
@@ -292,7 +306,7 @@ def judge_calls():
         tell("an event that a bare call has let go", 0, device.waiting())
     with osdp.Panel(check=0, quiet_wait=10) as panel, osdp.Device(5) as device:
         panel.begin(panel.add(5), 0)
-        panel.hear(device.hear(panel.tick(10), 20)[0].data, 20)
+        panel.hear(device.hear(sent(panel, 10), 20)[0].data, 20)
         panel.reports()
         tell("a report that a bare call has taken", [], panel.reports())
 
@@ -360,7 +374,7 @@ def judge_between():
         for now in range(0, 4000):
             while panel.waiting(door) < 4:
                 panel.submit(door, "LSTAT")
-            for answer in device.hear(panel.tick(now), now):
+            for answer in device.hear(sent(panel, now), now):
                 panel.hear(answer.data, now)
             for report in panel.reports():
                 settled += report.kind is osdp.Kind.SETTLED
@@ -391,7 +405,7 @@ def judge_device():
             panel.submit(entry, text)
         panel.begin(entry, 0)
         for now in range(0, 4000, 50):
-            for answer in device.hear(panel.tick(now), now):
+            for answer in device.hear(sent(panel, now), now):
                 panel.hear(answer.data, now)
             replies += [str(each.reply) for each in panel.reports() if each.kind is osdp.Kind.SETTLED]
         device.event("KEYPAD 0 31"), device.event("KEYPAD 0 30")
@@ -401,7 +415,7 @@ def judge_device():
         device.event("KEYPAD 0 32")
         tell("never offered", (None, "KEYPAD 0 32", None), (device.lapse_event(), str(device.withdraw_event()), device.withdraw_event()))
         device.event("KEYPAD 0 33")
-        tell("the answer that is lost", ["KEYPAD"], [{0x53: "KEYPAD"}.get(answer.data[5]) for answer in device.hear(panel.tick(14000), 14000)])
+        tell("the answer that is lost", ["KEYPAD"], [{0x53: "KEYPAD"}.get(answer.data[5]) for answer in device.hear(sent(panel, 14000), 14000)])
         tell("offered", (None, "KEYPAD 0 33", None), (device.withdraw_event(), str(device.lapse_event()), device.lapse_event()))
     tell("replies", ["PDID 53494D 1 2 3 4 5 6", "PDCAP 2:1:4", "LSTATR 1 0", "ISTATR 0100", "OSTATR 0001", "RSTATR 00", "NAK 9", "MFGREP 53494D 02", "NAK 3"], replies)
 
@@ -420,27 +434,74 @@ def judge_reports():
         panel.submit_message(door, 0x80, bytes(range(3, 12)))
         tell("the data of a command", bytes(range(3, 12)), panel.withdraw(door).data)
         panel.begin(door, 0)
-        panel.tick(410)
+        sent(panel, 410)
         panel.hear(b"\x53", 500)
         tell("a run is over", 530, panel.next_deadline())
         panel.silence(501)
         tell("an answer is waited for", 640, panel.next_deadline())
-        panel.hear(busy, 510)
-        tell("too busy", [(osdp.Kind.LOST, osdp.Cause.TOO_BUSY, None)], [(each.kind, each.cause, each.code) for each in panel.reports()])
+        tell("too busy", [(osdp.Kind.LOST, osdp.Cause.TOO_BUSY, None)], [(each.kind, each.cause, each.code) for each in told_of(panel, busy, 510)])
         panel.begin(door, 600)
-        panel.tick(1010)
-        panel.hear(pdid, 1020)
-        tell("opened", [osdp.Kind.OPENED], [each.kind for each in panel.reports()])
-        panel.tick(1110)
-        panel.hear(raw_of_none, 1120)
-        tell("unread", [(osdp.Kind.UNREAD, None, None, 0x50)], [(each.kind, each.command, each.cause, each.code) for each in panel.reports()])
-        panel.tick(1210)
-        panel.hear(nak_3, 1220)
-        tell("answered", [(osdp.Kind.ANSWERED, "NAK 3", None)], [(each.kind, str(each.reply), each.code) for each in panel.reports()])
+        sent(panel, 1010)
+        tell("opened", [osdp.Kind.OPENED], [each.kind for each in told_of(panel, pdid, 1020)])
+        sent(panel, 1110)
+        tell("unread", [(osdp.Kind.UNREAD, None, None, 0x50)], [(each.kind, each.command, each.cause, each.code) for each in told_of(panel, raw_of_none, 1120)])
+        sent(panel, 1210)
+        tell("answered", [(osdp.Kind.ANSWERED, "NAK 3", None)], [(each.kind, str(each.reply), each.code) for each in told_of(panel, nak_3, 1220)])
         late = 3 * 86_400_000
         refused("after a sleep", osdp.Status.MOMENT_TOO_FAR, panel.tick, late)
+        refused("a packet after a sleep", osdp.Status.MOMENT_TOO_FAR, panel.write, late)
         panel.set_moment(late)
-        tell("a POLL after a sleep", 7, len(panel.tick(late)))
+        tell("a POLL after a sleep", 7, len(sent(panel, late)))
+
+
+def runs(panel, device, until, start=0, hears=lambda now: True):
+    """Both ends run up to a moment. What went out, with its moment and code, and what is told. `hears` tells whether the device hears at a moment."""
+    bursts, told, heard = [], [], b""
+    for now in range(start, until):
+        panel.hear(heard, now)
+        told += panel.reports()
+        burst, heard = sent(panel, now), b""
+        bursts += [(now, burst[5])] if burst else []
+        for answer in device.hear(burst, now) if hears(now) else ():
+            heard += answer.data
+    return bursts, told
+
+
+def judge_orders():
+    """Numbers that go on and are used up, last moments, what is withheld, and since when an event is there."""
+    with osdp.Panel() as panel, osdp.Device(5) as device:
+        door = panel.add(5, 7)
+        panel.begin(door, 0)
+        tell("numbers", (7, 8), (panel.submit(door, "LSTAT"), panel.submit_message(door, 0x65, until=10000)))
+        refused("a POLL has no number", osdp.Status.POLL_SUBMITTED, panel.submit, door, "POLL")
+        device.event("KEYPAD 0 31")
+        bursts, told = runs(panel, device, 800)
+        polled = next(now for now, code in bursts if code == 0x60)
+        tell("told by numbers", [("OPENED", None, None), ("SETTLED", 7, None), ("EVENT", None, polled), ("SETTLED", 8, None)], [(each.kind.name, each.number, each.since) for each in told])
+        tell("the next one", 9, panel.next_number(door))
+        refused("the next one of no entry", osdp.Status.NO_ENTRY, panel.next_number, 1)
+        number, now = panel.submit(door, "LSTAT", until=799), panel.next_deadline()
+        bursts, told = runs(panel, device, 1000, 800)
+        tell("expired", [(osdp.Kind.EXPIRED, number, "LSTAT", None, False)], [(each.kind, each.number, str(each.command), each.reply, each.too_late) for each in told])
+        tell("an order that is late is told at once", (True, []), (now <= 800, [code for _, code in bursts if code == 0x64]))
+        panel.submit(door, "LSTAT", until=1000)
+        tell("an order at its last moment", 0x64, sent(panel, 1000)[5])
+    with osdp.Panel() as panel, osdp.Device(5) as device:
+        door = panel.add(5, 2**64 - 2)
+        tell("the last number", 2**64 - 2, panel.submit(door, "LSTAT"))
+        refused("no number", osdp.Status.NUMBERS_USED_UP, panel.submit, door, "LSTAT")
+        panel.withdraw(door)
+    for late, length in ((0, 8), (1, 0)):
+        with osdp.Panel() as panel, osdp.Device(5) as device:
+            door = panel.add(5)
+            panel.begin(door, 0)
+            runs(panel, device, 600)
+            number = panel.submit(door, "LSTAT", until=700)
+            tell("an order goes out", True, panel.tick(600))
+            tell("what is written late", length, len(panel.write(700 + late)))
+            tell("what was written is written once", b"", panel.write(700 + late))
+            bursts, told = runs(panel, device, 3000, 701, hears=lambda now: False)
+            tell("withheld", ([], [(osdp.Kind.LOST, number, True)]), ([code for _, code in bursts if code == 0x64], [(each.kind, each.number, each.too_late) for each in told]))
 
 
 def judge_answers():
@@ -453,7 +514,7 @@ def judge_answers():
             panel.submit(door, text)
         panel.begin(door, 0)
         for now in range(0, 4000, 10):
-            for answer in device.hear(panel.tick(now), now):
+            for answer in device.hear(sent(panel, now), now):
                 moved += [answer.moved] if answer.moved else []
                 panel.hear(answer.data, now)
             replies += [str(each.reply) for each in panel.reports() if each.kind in (osdp.Kind.SETTLED, osdp.Kind.MOVED)]
@@ -543,8 +604,8 @@ def judge_no_library():
         shutil.copytree(TOP / "python/osdp", f"{folder}/osdp", ignore=shutil.ignore_patterns("__pycache__"))
         (Path(folder) / "osdp/libosdp.so.0").symlink_to(os.environ["OSDP_LIBRARY"])
         for old, new, said in (('VERSION = "0.1.0"', 'VERSION = "0.2.0"', "the library of osdp has the version 0.1.0, and this package 0.2.0"),
-                               ('("kind", c_uint32), ("detail", c_uint32), ("command", MessageStruct)', '("kind", c_uint32), ("detail", c_uint64), ("command", MessageStruct)',
-                                "the library of osdp is of another version than this package: struct osdp_report has 2888 bytes there, and 2896 here")):
+                               ('("kind", c_uint32), ("detail", c_uint32), ("numbered", c_uint32)', '("kind", c_uint32), ("detail", c_uint64), ("numbered", c_uint32)',
+                                "the library of osdp is of another version than this package: struct osdp_report has 2912 bytes there, and 2920 here")):
             text = Path(f"{folder}/osdp/_library.py").read_text()
             changed = re.sub(r"\s+".join(map(re.escape, old.split())), new, text)
             Path(f"{folder}/osdp/_library.py").write_text(changed)
@@ -583,6 +644,6 @@ if __name__ == "__main__":
     judge_structs(header()), judge_functions(header()), judge_numbers(header()), judge_docs()
     for lost in ([], [41], [46], [30, 61, 66]):
         judge_session(lost)
-    judge_again(), judge_pieces(), judge_refusals(), judge_calls(), judge_copies(), judge_threads(), judge_rooms(), judge_between(), judge_device(), judge_reports(), judge_answers(), judge_memory(), judge_monitor(), judge_door(), judge_example(), judge_no_library()
+    judge_again(), judge_pieces(), judge_refusals(), judge_calls(), judge_copies(), judge_threads(), judge_rooms(), judge_between(), judge_device(), judge_reports(), judge_orders(), judge_answers(), judge_memory(), judge_monitor(), judge_door(), judge_example(), judge_no_library()
     print(f"python: {len(faults)} faults", *faults, sep="\n")
     sys.exit(1 if faults else 0)

@@ -18,7 +18,7 @@ done
 # ---- an empty root, fetched while the packages are made
 
 fetch_root() {
-  mmdebstrap --quiet --variant=minbase --include=gcc,libc6-dev,cmake,make,pkgconf,python3-minimal,python3-serial,python3-aiohttp bookworm "$root"
+  mmdebstrap --quiet --variant=minbase --include=gcc,libc6-dev,cmake,make,pkgconf,python3-minimal,python3-serial,python3-aiohttp,python3-paho-mqtt,adduser bookworm "$root"
 }
 fetch_root >"$work/fetched" 2>&1 &
 fetching=$!
@@ -29,7 +29,7 @@ passes ./install --pack "$work/one" --trial
 (cd / && umask 077 && TZ=Asia/Tokyo passes "$top/install" --pack "$work/two" --trial) || failed=1
 diff -r "$work/one" "$work/two" || fail 'two runs give other bytes'
 (cd "$work/one" && passes sha256sum --quiet -c SHA256SUMS) || failed=1
-[ "$(ls "$work/one" | wc -l)" -eq 9 ] || fail "other packages: $(ls "$work/one")"
+[ "$(ls "$work/one" | wc -l)" -eq 10 ] || fail "other packages: $(ls "$work/one")"
 grep -qxF "commit: $(git rev-parse HEAD)" "$work/one/RELEASE" || fail 'RELEASE names another commit'
 grep -q '^kit: rattle-kit-[^ ]* logic [0-9a-f]*$' "$work/one/RELEASE" || fail 'RELEASE names no kit'
 grep -q '^gate: .' "$work/one/RELEASE" || fail 'RELEASE has no line of a gate'
@@ -121,6 +121,9 @@ inside sh -c 'dpkg -i /tmp/made/*.deb'
 [ "$(chroot "$root" dpkg-query -W -f '${db:Status-Abbrev}' osdp-dev)" != 'ii ' ] || fail 'the package that the new ones take over is still there'
 inside sh -c '[ "$(osdp --version)" = "osdp 0.1.0" ] && [ "$(osdp-port --version)" = "osdp-port 0.1.0" ]'
 inside sh -c 'cd / && python3 -c "import sys; sys.path.insert(0, \"/usr/share/osdp/port\"); import osdp_port.page.start, osdp_port.page.server"'
+inside sh -c 'cp /usr/share/osdp/service/line.toml /etc/osdp/north.toml && sed -i s,/dev/serial/by-id/usb-YOUR_ADAPTER,/dev/null, /etc/osdp/north.toml'
+inside sh -c 'cd / && setpriv --reuid osdp --regid osdp --init-groups osdp-port --config /etc/osdp/north.toml serve --new && osdp-port --plain --config /etc/osdp/north.toml serve --check | grep -q "^ready: line north"'
+inside sh -c 'rm -r /etc/osdp/north.toml /var/lib/osdp/north.store*'
 inside sh -c 'cd /tmp/made && cc -o plain installed.c $(pkg-config --cflags --libs osdp) && [ "$(./plain)" = "0.1.0 53050900046100C125" ]'
 inside sh -c 'cd /tmp/made && cmake -B build . && cmake --build build && [ "$(build/installed)" = "0.1.0 53050900046100C125" ]'
 inside sh -c 'python3 /usr/share/osdp/python/examples/session.py | grep -qx "done: OUT 0:5:30"'
@@ -129,7 +132,7 @@ inside sh -c 'cd / && python3 -c "import osdp; print(osdp.library_version())" | 
 inside sh -c 'sed -i "s/osdp 0.1 /osdp 0.2 /" /tmp/made/CMakeLists.txt && ! cmake -B /tmp/other /tmp/made'
 cmp -s "$root/usr/share/doc/osdp/RELEASE" "$work/one/RELEASE" || fail 'the package has another RELEASE'
 grep -q 'No licence has been chosen yet' "$root/usr/share/doc/osdp/copyright" || fail 'the package does not say what may be done with it'
-packages="osdp osdp-page libosdp0 libosdp-dev python3-osdp librust-osdp-dev"
+packages="osdp osdp-page osdp-service libosdp0 libosdp-dev python3-osdp librust-osdp-dev"
 inside dpkg --verify $packages
 inside sh -c 'ldconfig -p | grep -q "libosdp.so.0 "'
 # each goes with those of its own version: the library isn't removed from under the others, nor do they go with an earlier one
@@ -138,9 +141,11 @@ for alone in libosdp0 libosdp-dev; do
 done
 inside dpkg --remove $packages
 everything >"$work/removed"
-diff "$work/before" "$work/removed" || fail 'something is left once the packages are removed'
+# the services' user and folders stay until the package is purged; of a file of users an earlier form stays beside it
+users() { grep -vE '^\./etc/(passwd|group|shadow|gshadow|subuid|subgid)'"$1"' ' "$2"; }
+diff <(users '-?' "$work/before") <(users '-?' "$work/removed" | grep -vE '^\./(etc|var/lib)/osdp/$') || fail 'something is left once the packages are removed'
 inside dpkg --purge osdp-dev $packages
 everything >"$work/after"
-diff "$work/before" "$work/after" || fail 'something is left once the packages are removed'
+diff <(users - "$work/before") <(users - "$work/after") || fail 'something is left once the packages are removed'
 
 exit "$failed"

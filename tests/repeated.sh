@@ -10,8 +10,8 @@ cd "$(dirname "$0")/.." || exit 1
 
 # $1: the name of what is built; the rest: what it is made of
 build() {
-  "$CC" -std=c11 -Wall -Wextra -Werror -pedantic -O2 -g -Iinclude -Iexamples/c -o "$work/$1" "${@:2}" examples/c/{settings,words}.c \
-    c/{heap_malloc,osdp_site,osdp_texts}.c crates/osdp_c/out/libosdp_c.a -fsanitize=address,undefined -fno-sanitize-recover=all >"$work/said" 2>&1 || { cat "$work/said"; fail "$1 was not built"; return 1; }
+  "$CC" -std=c11 -Wall -Wextra -Werror -pedantic -O2 -g -Iinclude -Iexamples/c -o "$work/$1" "${@:2}" examples/c/{settings,store,words}.c \
+    c/{heap_malloc,osdp_site,osdp_texts}.c crates/osdp_c/out/libosdp_c.a -lsqlite3 -fsanitize=address,undefined -fno-sanitize-recover=all >"$work/said" 2>&1 || { cat "$work/said"; fail "$1 was not built"; return 1; }
 }
 
 panel=(examples/c/{door,kept}.c tests/c/repeated.c -Wl,--wrap=tell_report)

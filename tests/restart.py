@@ -69,6 +69,10 @@ class Line:
 
     def asks(self, text, number):
         self.panel.at(self.now, "tick")
+        if not self.panel.told.count("burst "):
+            self.panel.call("tick")  # the turn whose bytes brought a report sends nothing
+        self.panel.told.remove("burst ")
+        self.panel.call("write")
         self.reader.at(self.now, f"bytes {self.packet(self.panel, 'cmd', text, number)}")
 
     def answers(self, text, number, comes=True):
@@ -77,8 +81,9 @@ class Line:
             self.panel.at(self.now, f"bytes {digits}")
 
     def tells(self, end, report):
-        """Takes the line that this end has told: a report, without the device's number and, of an opening, what the device is."""
-        said = re.sub(r"^(\w+) 1 ", r"\1 ", end.told.pop(0)) if end.told else "nothing"
+        """Takes the line that this end has told: a report, without the device's number, that of the order and the moment since which an event was offered; and, of an opening,
+        without what the device is."""
+        said = re.sub(r"^(?:order \d+ )?([\w-]+) 1(?: since \d+)?", r"\1", end.told.pop(0)) if end.told else "nothing"
         if said != report and not (report == "opened" and said.startswith("opened ")):
             fail(f"{report}: told is {said}")
 
@@ -90,7 +95,9 @@ class Line:
             self.reader.stop()
             self.reader = new_reader()
         elif call := re.fullmatch(r"(submit|begin)(.*)", what):
-            self.panel.at(self.now, f"{call[1]} 1{call[2]}")
+            self.panel.at(self.now, f"{call[1]} 1{' never' if call[1] == 'submit' else ''}{call[2]}")
+            if call[1] == "submit":
+                self.tells(self.panel, "waits")
         else:
             self.tells(self.panel if who == "panel" else self.reader, what)
 
@@ -118,7 +125,7 @@ def drawn():
 
 def main():
     line = Line()
-    for call in ("add 5", "begin 1"):
+    for call in ("add 5 1", "begin 1"):
         line.panel.call(call)
     line.now = 400
     line.asks("ID 0", 0)

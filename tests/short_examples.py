@@ -13,7 +13,7 @@ from pathlib import Path
 import port_line
 import stores
 from port_line import ACK, COM, COMSET, ID, NAK, OUT, PANEL, PDID, Device, asks, faults, has, opened, tells
-from terminals import Script, Terminal, commands, packet
+from terminals import Numbered, Script, Terminal, commands, packet
 
 TOP = Path(__file__).resolve().parent.parent
 
@@ -21,7 +21,7 @@ TOP = Path(__file__).resolve().parent.parent
 def started(words, terminal, *rest, **streams):
     example, program = words
     addresses, settings = rest[0], rest[1:]
-    return Script(*example, terminal.path, 9600, *addresses, *program, *settings, **streams)
+    return Numbered(*example, terminal.path, 9600, *addresses, *program, *settings, **streams)
 
 
 def ended(script, status, said, what):

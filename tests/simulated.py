@@ -5,10 +5,13 @@ the line takes a second or less."""
 import sys
 from pathlib import Path
 
+from terminals import without_order
+
 TOP = Path(__file__).resolve().parent.parent
 sys.path.insert(0, str(TOP / "port"))
 sys.dont_write_bytecode = True
 
+from osdp_port.console import Typed  # noqa: E402
 from osdp_port.faults import Stop  # noqa: E402
 from osdp_port.keep import PanelPlaces, ReaderPlace  # noqa: E402
 from osdp_port.devices import first_rate, new_devices  # noqa: E402
@@ -50,7 +53,7 @@ class Line:
         self.now = 0
         self.on_the_way = []  # the moment at which a burst comes, to whom, and the burst
         self.panel, self.readers = None, {}
-        self.told, self.acted, self.bursts = [], {}, []
+        self.numbered, self.told, self.acted, self.bursts = [], [], {}, []  # what the panel tells, and the same without the numbers of orders
 
     def clock(self):
         return self.now
@@ -63,7 +66,11 @@ class Line:
             if kept and kept.store:
                 kept.close()
             raise
-        self.panel = Panel(Port(self, first_rate(devices, rate)), Lines(self.osdp, ["panel", *self.settings]), devices, self.clock, self.told.append, kept)
+        self.panel = Panel(Port(self, first_rate(devices, rate)), Lines(self.osdp, ["panel", *self.settings]), devices, self.clock, self.says, kept)
+
+    def says(self, line):
+        self.numbered.append(line)
+        self.told.append(without_order(line))
 
     def add_reader(self, address, rate=9600, serial=0, words=(), keep=None):
         kept = ReaderPlace(str(keep), not Path(keep).exists()) if keep else None
@@ -112,7 +119,7 @@ class Line:
         return holds()
 
     def order(self, line):
-        self.panel.turn(b"", [line])
+        self.panel.turn(b"", [Typed(line, self.now)])
 
     def all_open(self):
         return all(self.panel.rounds.is_reached(device) for device in self.panel.devices)

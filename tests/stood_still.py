@@ -2,8 +2,8 @@
 them without. In place of the path stands `python` for the examples of the package for Python, whose library OSDP_LIBRARY names.
 
 A program is stopped, or nobody reads what it prints, while an order is on the wire, while one waits, or as one is typed; and a reader while an order comes. After that no
-panel sends an order of before, each order has its end, and each line that was typed meanwhile is told as not taken. No reader does what came meanwhile, nor answers it. A card
-that came meanwhile opens no door, and where storing takes too long no order goes out."""
+panel sends an order of before, and each order has its end: it is withheld, or expires, also where it was typed meanwhile. No reader does what came meanwhile, nor answers it. A
+card that came meanwhile opens no door, and where storing takes too long no order goes out."""
 import contextlib
 import fcntl
 import os
@@ -19,7 +19,7 @@ from pathlib import Path
 
 import port_line
 from port_line import ACK, ID, OUT, PDID, POLL, PORT, TOP, Device, asks, faults, opened, tells
-from terminals import Script, Terminal, packet
+from terminals import Numbered, Script, Terminal, packet
 
 LATE, STILL = 2000, 3.0  # how late the programs may be, in milliseconds; for how many seconds they stand still
 SETTINGS = "poll-interval 20 reply-wait 300 sends 3 quiet-wait 60 gap 300 check sum".split()
@@ -31,8 +31,8 @@ CARD, OTHER = (bytes([0, 0, 26, 0]) + bytes.fromhex(card) for card in ("12345640
 
 def panels():
     """What stands before the port of each panel, what after its rate, and how it names its device."""
-    yield "osdp-port panel", [PORT, "--plain", "--osdp", osdp, "--late", LATE], ["panel", "5", *SETTINGS], "5"
-    yield "panel.py", [sys.executable, "-B", TOP / "examples/panel.py", "--late", LATE], ["5", osdp, *SETTINGS], "1"
+    yield "osdp-port panel", [PORT, "--plain", "--osdp", osdp, "--until", LATE], ["panel", "5", *SETTINGS], "5"
+    yield "panel.py", [sys.executable, "-B", TOP / "examples/panel.py", "--until", LATE], ["5", osdp, *SETTINGS], "1"
 
 
 def stored_panels(folder):
@@ -79,7 +79,7 @@ class Panel:
         self.device = Device(self.terminal, is_silent=lambda burst: burst[5] in self.held)
         self.out, self.into = os.pipe()
         fcntl.fcntl(self.out, 1031, 4096)  # F_SETPIPE_SZ
-        self.script = Script(*before, self.terminal.path, 9600, *after, stdout=self.into, **streams)
+        self.script = Numbered(*before, self.terminal.path, 9600, *after, stdout=self.into, **streams)
         self.script.process.stdout = os.fdopen(self.out, "rb", buffering=0)
         os.set_blocking(self.out, False)
 
@@ -120,22 +120,21 @@ def panel_stands_still(how, name, before, after, number):
             line.script.say(f"{number} OUT 0:5:32")
             time.sleep(0.2)
             line.goes_on()
-        ends = [f"lost {number}", f"withdrawn {number} OUT 0:5:31", f"not taken {number} OUT 0:5:32", "stood still"]
+        ends = [f"lost {number} no-reply withheld OUT 0:5:30", f"expired {number} OUT 0:5:31", f"expired {number} OUT 0:5:32"]
         asks(line.until(lambda: opened(line.script, number, 2)() and all(tells(line.script, end)() for end in ends)), f"{name}, {how}: not all is told: {line.script.lines}")
-        asks(any(told.startswith(f"lost {number} ") and told.endswith(" OUT 0:5:30") for told in line.script.lines), f"{name}, {how}: the order isn't told lost: {line.script.lines}")
         asks(line.outs() == [], f"{name}, {how}: an order of before goes out: {line.outs()}")
         line.script.say(f"{number} OUT 0:5:33")
         asks(line.until(tells(line.script, f"settled {number} OUT 0:5:33 = ACK")), f"{name}, {how}: a new order isn't done: {line.script.lines[-4:]}")
 
 
 def late_packet(name, before, after, number):
-    """An order is typed while nobody reads what the panel prints: it prints first that it was ordered, so the order would go out late."""
+    """An order is typed while nobody reads what the panel prints: it prints first that it was ordered, so the order would go out late. It is withheld."""
     with Panel(name, before, after) as line:
         with unread(line.into):
             line.script.say(f"{number} OUT 0:5:30")
             time.sleep(0.2)
             line.goes_on()
-        asks(line.until(tells(line.script, f"not taken {number} OUT 0:5:30")), f"{name}, late: it isn't told: {line.script.lines}")
+        asks(line.until(tells(line.script, f"lost {number} no-reply withheld OUT 0:5:30")), f"{name}, late: it isn't told: {line.script.lines}")
         line.until(lambda: False, 1)
         asks(line.outs() == [], f"{name}, late: the order goes out: {line.outs()}")
 
@@ -145,7 +144,7 @@ def quiet_panel(name, before, after, number):
     with Panel(name, before, after) as line:
         with stopped(line.script):
             pass
-        asks(line.until(tells(line.script, "stood still")), f"{name}, quiet: it isn't told: {line.script.lines}")
+        line.until(lambda: False, 0.5)  # what is typed before the panel looks for lines again may be older
         line.script.say(f"{number} OUT 0:5:30")
         asks(line.until(tells(line.script, f"settled {number} OUT 0:5:30 = ACK")), f"{name}, quiet: no order is done: {line.script.lines}")
         asks(not tells(line.script, "lost")(), f"{name}, quiet: the session is lost: {line.script.lines}")
@@ -224,7 +223,7 @@ def late_deed(name, before, after):
 
 
 def old_card(name, before, after):
-    """A card comes while the panel is stopped: it opens no door. A card after that does."""
+    """A card comes while the panel is stopped: it opens no door, since its order expires. The session goes on, and a card after that opens the door."""
     with Panel(name, before, after) as line:
         line.held = [POLL]
         line.device.asked.clear()
@@ -232,14 +231,15 @@ def old_card(name, before, after):
         with stopped(line.script):
             line.device.write(packet(0x85, line.device.asked[-1][4] & 3, RAW, CARD))
             line.goes_on()
-        asks(line.until(lambda: line.opened() == 2), f"{name}, card: its session doesn't end and open again: {line.script.lines}")
-        asks(line.outs() == [] and tells(line.script, "too old: the door stays closed")(), f"{name}, card: it opens the door: {line.script.lines}")
+        expired = "expired OUT 0:5:30" if name == "door_panel.py" else "back 1 OUT 0:5:30"
+        asks(line.until(tells(line.script, expired)), f"{name}, card: its order doesn't expire: {line.script.lines}")
+        asks(line.outs() == [] and line.opened() == 1, f"{name}, card: it opens the door, or the session ends: {line.script.lines}")
         line.device.replies[POLL] = (RAW, OTHER)
         asks(line.until(lambda: OLD in line.outs()), f"{name}, card: a new one doesn't open the door: {line.script.lines}")
 
 
 def old_order(name, before, after):
-    """The order of a panel that stores it has gone out once as it is stopped: it is in doubt, and goes out no more."""
+    """The order of a panel that stores it has gone out once as it is stopped: it is in doubt, and goes out no more. One that was typed meanwhile is taken back."""
     with Panel(name, before, after) as line:
         line.held = [OUT]
         line.script.say("OUT 0:5:30")
@@ -248,24 +248,24 @@ def old_order(name, before, after):
             line.script.say("OUT 0:5:32")
             line.goes_on()
         asks(line.until(lambda: line.opened() == 2 and tells(line.script, "doubt 1 OUT 0:5:30")()), f"{name}, order: it isn't in doubt: {line.script.lines}")
-        asks(line.outs() == [] and tells(line.script, "not taken OUT 0:5:32")(), f"{name}, order: one of before goes out: {line.outs()}, {line.script.lines}")
+        asks(line.outs() == [] and tells(line.script, "back 2 OUT 0:5:32")(), f"{name}, order: one of before goes out: {line.outs()}, {line.script.lines}")
 
 
 def slow_disk(name, before, after):
-    """To store a card and its order takes longer than the panel may be late: the order doesn't go out, and is in doubt."""
+    """To store a card and its order takes longer than the panel may be late: the order expires, and is told as taken back. The session goes on."""
     with tempfile.TemporaryDirectory() as folder:
         library, slow = Path(folder) / "slow.so", Path(folder) / "slow"
         subprocess.run([os.environ.get("CC", "cc"), "-O1", "-shared", "-fPIC", "-o", library, Path(__file__).resolve().with_name("slow.c")], check=True)
         with Panel(name, before, after, env={**os.environ, "LD_PRELOAD": str(library), "SLOW_SYNC": "2500", "SLOW_WHERE": str(slow)}) as line:
             slow.touch()
             line.device.replies[POLL] = (RAW, CARD)
-            asks(line.until(tells(line.script, "order 1 OUT 0:5:30")), f"{name}, disk: the card makes no order: {line.script.lines}")
+            asks(line.until(lambda: any(told.endswith("OUT 0:5:30") for told in line.script.lines)), f"{name}, disk: the card makes no order: {line.script.lines}")
             line.device.replies[POLL] = (ACK, b"")
             slow.unlink()
-            asks(line.until(tells(line.script, "doubt 1 OUT 0:5:30")), f"{name}, disk: it isn't told: {line.script.lines}")
-            line.until(lambda: line.opened() == 2, 5)
+            asks(line.until(tells(line.script, "back 1 OUT 0:5:30")), f"{name}, disk: it isn't told: {line.script.lines}")
             line.script.say("OUT 0:5:33")
             asks(line.until(lambda: line.outs() == [bytes([0, 5, 33, 0])]), f"{name}, disk: sent are {line.outs()}: {line.script.lines}")
+            asks(line.opened() == 1, f"{name}, disk: the session ends: {line.script.lines}")
 
 
 PANELS = (("stopped", partial(panel_stands_still, "stopped")), ("unread", partial(panel_stands_still, "unread")), ("late", late_packet), ("quiet", quiet_panel))

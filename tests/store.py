@@ -242,7 +242,8 @@ def lives(line):
 def judge(line, cards):
     """What the store says, beside what the device did, what was shown to it, and what was told."""
     orders = line.rows("SELECT number, text, state, told FROM orders ORDER BY number")
-    line.asks([number for number, *_ in orders] == list(range(1, len(orders) + 1)), f"the numbers of the orders are {orders}")
+    given = [int(each.split(" ")[1]) for each in line.lines if each.startswith("order ")]
+    line.asks(given == sorted(set(given)) and orders[0][0] == 1, f"the numbers don't go up: {given}, {orders}")  # the question after the state takes one that no order has
     acted = [text for text, _ in line.acted]
     for number, text, state, _ in orders:
         times, least = acted.count(text), sum(other == text and how == "settled" for _, other, how, _ in orders)

@@ -8,12 +8,13 @@ to it meanwhile. At last the panel isn't ended any more, until each order has an
 - The device has acted on no order twice, on each that is settled and on none that was taken back or refused, and in the order in which they were given.
 - Each order has one end, and those that are in doubt were acted on once or never.
 - Each card was told, in the order in which they were shown, and the door was ordered once for each that may enter.
-- The numbers of the orders go on from each start to the next.
+- The numbers of the orders go up, from each start to the next too. The question after the state takes one that no order has.
 
 A POLL that is answered by a code which nobody can read ends no order and no session; an order that is answered so is in doubt, and the device is asked for its state
 at once. What is in doubt is told again at each start, until the device's state was told. A file that is no store isn't read, and a second program may not have the same one.
 
-Of the program in C: a line of spaces is refused; and where the disk is slow (`slow.c`) a card opens no door late, and where the panel was stopped no order of before goes out."""
+Of the program in C: a line of spaces is refused; and where the disk is slow (`slow.c`) a card opens no door late: its order expires. Where the panel was stopped no order of
+before goes out."""
 import os
 import random
 import select
@@ -121,7 +122,8 @@ def judge(world):
     """What the store says, beside what the device did and was shown."""
     orders = dict(rows(world.store, "SELECT number, text FROM orders ORDER BY number"))
     ends = [(number, f"{state} {answer or ''}".strip()) for number, state, answer in rows(world.store, "SELECT number, state, answer FROM orders WHERE state <> 'open'")]
-    asks(list(orders) == list(range(1, len(orders) + 1)), "the numbers of the orders don't go on")
+    given = [int(text.split(":")[2]) for text in orders.values() if text.startswith("OUT 1:")]
+    asks(given == sorted(set(given)) and min(orders) == 1, "the numbers of the orders don't go up as they were given")
     asks(sorted(which for which, _ in ends) == list(orders), "an order has no end")
     by_time = [text for text in world.acted if text.startswith("OUT 1:")]
     asks(len(by_time) == len(set(by_time)) and by_time == sorted(by_time, key=lambda text: int(text.split(":")[2])), "an order was acted on twice, or out of turn")
@@ -296,7 +298,7 @@ def told_again(folder):
 
 
 def slow_disk(folder):
-    """Where the disk takes long a card opens no door late: its order isn't written, and is in doubt. Later, and where the disk is fast enough, it opens."""
+    """Where the disk takes long a card opens no door late: its order expires, and is told as taken back. Later, and where the disk is fast enough, it opens."""
     slow = Path(folder) / "slow.so"
     subprocess.run([os.environ.get("CC", "cc"), "-O1", "-shared", "-fPIC", "-o", slow, TOP / "tests/slow.c"], check=True)
     flag = Path(folder) / "is_slow"
@@ -308,7 +310,7 @@ def slow_disk(folder):
     line.device.event(f"RAW 0 0 26 {MAY_ENTER[1]}")
     asks(line.until(line.has("order 2 OUT 0:5:30")), f"slow: the card makes no order: {line.panel.lines}")
     flag.unlink()
-    asks(line.until(line.has("doubt 2 OUT 0:5:30", "state OSTATR 0000")), f"slow: the order isn't in doubt: {line.panel.lines}")
+    asks(line.until(line.has("back 2 OUT 0:5:30")), f"slow: the order doesn't expire: {line.panel.lines}")
     asks(line.acted == ["OUT 0:5:30"], f"slow: the device has acted on {line.acted}")
     line.device.event(f"RAW 0 0 26 {MAY_ENTER[0]}")
     asks(line.until(line.has("settled ACK 3 OUT 0:5:30")), f"slow: after it no card opens the door: {line.panel.lines}")

@@ -1,6 +1,7 @@
 """Pseudo terminals, and examples that run on them, for the tests that need both."""
 import os
 import pty
+import re
 import select
 import subprocess
 import sys
@@ -75,6 +76,23 @@ class Script:
         self.is_over, piece = piece == b"", piece or b""
         *whole, self.rest = (self.rest + piece).split(b"\n")
         self.lines += [line.decode() for line in whole]
+
+
+def without_order(line):
+    """A line of a panel without the number of its order, as most tests look for it."""
+    return re.sub(r"^order \d+ ", "", line)
+
+
+class Numbered(Script):
+    """A panel that tells its orders by their numbers. `lines` are without these, and `numbered` with them."""
+
+    numbered = ()
+
+    def read(self):
+        before = len(self.lines)
+        super().read()
+        self.numbered = [*self.numbered, *self.lines[before:]]
+        self.lines[before:] = map(without_order, self.lines[before:])
 
 
 def packet(address, number, code, data=b""):

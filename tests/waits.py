@@ -20,7 +20,7 @@ import time
 
 import port_line
 from port_line import PORT
-from terminals import Script, Terminal, packet
+from terminals import Numbered, Terminal, packet
 
 READERS, ANSWER, WAITING, SECONDS, SLACK, MOST_LATE = 3, 40, 4, 8.0, 50, 60
 RATE, INTERVAL = 230400, 20
@@ -63,7 +63,7 @@ class Run:
         self.terminal = Terminal()
         words = f"check sum reply-wait 400 quiet-wait 60 capacity 16 poll-interval {INTERVAL}".split()
         addresses = ",".join(str(at) for at in range(READERS))
-        self.panel = Script(PORT, "--plain", "--osdp", program, self.terminal.path, RATE, "panel", addresses, *words, stderr=subprocess.DEVNULL)
+        self.panel = Numbered(PORT, "--plain", "--osdp", program, self.terminal.path, RATE, "panel", addresses, *words, stderr=subprocess.DEVNULL)
         self.readers = [Reader(at) for at in range(READERS)]
         self.answers = []                               # with their moments
         self.given = [[] for _ in self.readers]         # orders that haven't gone out: their number, their moment and how many were before them

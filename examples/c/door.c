@@ -29,7 +29,14 @@ osdp_status add_door(osdp_panel *panel, struct door *door, const struct kept_wor
     *door = (struct door){ .stand = stand_of(stands, &count, KEPT, name, rate) };
     (void)keep_door();
     osdp_site_new(&door->site, &door->place, 1, OSDP_SITE_ANY_LENGTH, 0);
-    return osdp_panel_add(panel, place_of(door->stand).address, &door->entry);
+    return osdp_panel_add(panel, place_of(door->stand).address, 0, &door->entry); /* its orders aren't stored, so they are counted from 0 */
+}
+
+/* Its open session is let end, by leaving out what the panel says: there is no call for it. */
+static void leave_door(struct door *door)
+{
+    door->is_left = door->place.is_online;
+    door->may_order = false;
 }
 
 /* The device is there, and is the door. */
@@ -70,16 +77,12 @@ static void accept_door(struct door *door)
     (void)keep_door();
 }
 
-void leave_door(struct door *door)
+void write_door(osdp_panel *panel, const struct door *door, int port)
 {
-    door->is_left = door->place.is_online;
-    door->may_order = false;
-}
-
-void write_door(struct door *door, int port, const struct osdp_burst *burst, uint64_t since)
-{
-    if (!door->is_left && !write_all(port, burst, since)) {
-        leave_door(door);
+    static struct osdp_burst burst;
+    uint64_t now = moment();
+    if (osdp_panel_write(panel, now, &burst) == OSDP_OK && !door->is_left) {
+        (void)write_all(port, &burst, now);
     }
 }
 
@@ -141,12 +144,13 @@ void take_line(osdp_panel *panel, struct door *door, const char *line)
 {
     static struct osdp_message comset;
     unsigned address, rate;
+    uint64_t order;
     if (strcmp(line, "accept") == 0 && door->is_other) {
         accept_door(door);
     } else if (sscanf(line, "move %3u %6u", &address, &rate) == 2 && address <= 126 && has_rate(rate) && door->may_order && door->stand->count == 1
         && !is_taken(stands, count, door->stand, address) && osdp_comset(address, rate, &comset) == OSDP_OK) {
         may_move(door->stand, (struct place){ address, rate });
-        if (!keep_door() || tell_refusal(osdp_panel_submit(panel, door->entry, comset.code, comset.data, comset.length))) {
+        if (!keep_door() || tell_refusal(osdp_panel_submit(panel, door->entry, comset.code, comset.data, comset.length, OSDP_NEVER, &order))) { /* the device may move at any moment */
             stands_at(door->stand, place_of(door->stand));
             (void)keep_door();
         }

@@ -23,18 +23,14 @@ struct door {
 osdp_status add_door(osdp_panel *panel, struct door *door, const struct kept_words *kept, uint32_t name, uint32_t rate);
 
 /* Does what a report asks for about its place and its session. Another device that answers is told, and gets no order. Where the door may be at two places, and
- * another device stands at one of them, that session is let end, and the door is looked for at the other place too. */
+ * another device stands at one of them, that session is let end, and the door is looked for at the other place too. So it is also where a COMSET is answered neither by
+ * a COM nor by a NAK: the device is at either place, and the panel may take no other COMSET for it until it is looked for anew. */
 void heed_door(struct door *door, const struct osdp_report *report, uint64_t now);
 
-/* Lets its open session end, by leaving out what the panel says: there is no call for it. So its next session begins at a place that is known, no order goes out
- * that was given before the program was stopped, and a card that is told again is known as such. Where a COMSET is answered neither by a COM nor by a NAK it is
- * done too: the device is at either place, and the panel may take no other COMSET for it until it is looked for anew. */
-void leave_door(struct door *door);
+/* Writes what the panel's tick has made, at the moment that it is now, but for a door that is left. */
+void write_door(osdp_panel *panel, const struct door *door, int port);
 
-/* Writes what the panel says, but for a door that is left. One that is late since this moment isn't written, and the door is left: else an order would go out late. */
-void write_door(struct door *door, int port, const struct osdp_burst *burst, uint64_t since);
-
-/* Begins a session whose moment has come, at each of its places in turn. The orders that waited are stale. */
+/* Begins a session whose moment has come, at each of its places in turn. The orders that waited are taken back, and told: the device may be another one then. */
 void begin_door(osdp_panel *panel, struct door *door, int port, uint64_t now);
 
 /* Does what a line says: `move 7 9600` gives the device another address and rate, and `accept` takes the other device that was told last for it. */

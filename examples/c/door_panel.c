@@ -25,13 +25,15 @@ int main(void)
 static osdp_panel panel;
 static struct door door;
 
-/* Orders the door's strike, its output 0, on for three seconds. Where as many orders wait as may, that is told, and the door stays closed. */
-static void open_door(void)
+/* Orders the door's strike, its output 0, on for three seconds, for a card that was asked for at this moment. An order that would go out later than `--late` after
+ * that doesn't go out. Where as many orders wait as may, that is told. In both cases the door stays closed. */
+static void open_door(uint64_t since)
 {
     static struct osdp_message command;
+    uint64_t order;
     const struct osdp_output strike = { .output = 0, .control = OSDP_OUTPUT_ON_FOR_A_TIME, .timer = 30 };
     (void)osdp_out(&strike, 1, &command);
-    (void)tell_refusal(osdp_panel_submit(&panel, door.entry, command.code, command.data, command.length));
+    (void)tell_refusal(osdp_panel_submit(&panel, door.entry, command.code, command.data, command.length, since + late_by(), &order));
 }
 
 /* Takes what the panel reports, and does what is to be done about it. */
@@ -44,7 +46,7 @@ static void take_reports(uint64_t now)
         heed_door(&door, &report, now);
         /* a card that may have been told before makes no second order */
         if (report.kind == OSDP_REPORT_EVENT && report.detail != OSDP_EVENT_MAYBE_AGAIN && door.may_order && osdp_raw_of(&report.reply, &card) == OSDP_OK && may_enter(&card)) {
-            open_door();
+            open_door(report.since);
         }
     }
 }
@@ -52,7 +54,6 @@ static void take_reports(uint64_t now)
 int main(int count, char **words)
 {
     static struct lines lines;
-    static struct osdp_burst burst;
     struct osdp_panel_config config;
     uint8_t bytes[4096];
     struct kept_words kept = { 0 };
@@ -65,12 +66,11 @@ int main(int count, char **words)
         stop(OUT_OF_MEMORY, "%s", osdp_status_text(status));
     }
     int port = open_port(words[0], rate);
+    hear_all();
     for (;;) {
+        uint32_t sends = 0;
         uint64_t now, wait = osdp_site_wait(&door.site, &panel, moment(), UINT64_MAX);
         size_t length = read_port(port, &lines, wait, bytes, sizeof bytes, &now);
-        if (was_stopped()) {
-            leave_door(&door); /* a card, or an order, of before would open the door now */
-        }
         if (osdp_panel_bytes(&panel, bytes, length, now) == OSDP_MOMENT_TOO_FAR) {
             (void)osdp_panel_set_moment(&panel, now); /* the program was stopped for more than a day */
         }
@@ -79,9 +79,9 @@ int main(int count, char **words)
             take_line(&panel, &door, line);
         }
         begin_door(&panel, &door, port, now);
-        (void)osdp_panel_tick(&panel, now, &burst);
-        write_door(&door, port, &burst, now);
-        take_reports(now);
+        if (osdp_panel_tick(&panel, now, &sends) == OSDP_OK && sends != 0) {
+            write_door(&panel, &door, port);
+        }
     }
 }
 #endif

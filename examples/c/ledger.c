@@ -54,11 +54,19 @@ static long long date(void)
     return (long long)now.tv_sec * 1000 + now.tv_nsec / 1000000;
 }
 
-uint64_t note_order(const char *text, uint32_t milliseconds)
+uint64_t next_order(uint32_t name)
 {
-    long long number = 1 + number_in_store(0, "SELECT max(number) FROM orders WHERE device = ?", "i", device);
-    demand_store(write_store("INSERT INTO orders (device, number, text, until) VALUES (?, ?, ?, ?)", "iiti", device, number, text, date() + milliseconds));
-    return (uint64_t)number;
+    return 1 + (uint64_t)number_in_store(0, "SELECT max(number) FROM orders WHERE device = ?", "i", (long long)name);
+}
+
+void note_order(uint64_t number, const char *text, uint64_t milliseconds)
+{
+    demand_store(write_store("INSERT INTO orders (device, number, text, until) VALUES (?, ?, ?, ?)", "iiti", device, (long long)number, text, date() + (long long)milliseconds));
+}
+
+void drop_order(uint64_t number)
+{
+    demand_store(write_store("DELETE FROM orders WHERE device = ? AND number = ?", "ii", device, (long long)number));
 }
 
 /* Tells what became of an order, after these words. */

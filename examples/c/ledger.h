@@ -9,10 +9,15 @@
  * was done. Its user may want that so many ended orders and handled events stay; 0 where he says nothing. */
 void open_ledger(uint32_t name, uint32_t retain);
 
-/* Stores an order that is about to be given, and goes out within so many milliseconds. Its number: they count on, also over restarts. */
-uint64_t note_order(const char *text, uint32_t milliseconds);
+/* The number that the next order of a device has, by what is stored of those before: for `osdp_panel_add`, so that numbers count on over restarts. From 1. */
+uint64_t next_order(uint32_t name);
 
-/* Stores what became of an order: `settled`, `back` or `refused`, with the reply, or why; NULL where there is neither. */
+/* Stores an order that is about to be given, by the number that it has in the panel, and goes out within so many milliseconds. And takes it out again where the panel
+ * refuses it: then its number is still the next one. */
+void note_order(uint64_t number, const char *text, uint64_t milliseconds);
+void drop_order(uint64_t number);
+
+/* Stores what became of an order: `settled`, with the reply, or `back`, where it never went out. */
 void note_end(uint64_t number, const char *state, const char *answer);
 
 /* An order is in doubt: that is told, and stored once its user has heard all that can be known of it. Then it has its end with the next turn. */

@@ -24,14 +24,14 @@ static bool is_comset(const char *text, struct place *place)
 /* An order that has had no end yet. */
 struct given {
     struct given *next;
-    uint64_t since;
+    uint64_t number; /* as the panel has it */
     char text[];
 };
 
 static struct given *given[MOST]; /* of each reader, the first one first */
 
 /* An order was taken. Nothing is told of its end where there is no memory to note it. */
-static void order_given(size_t entry, const char *text, uint64_t now)
+static void order_given(size_t entry, uint64_t number, const char *text)
 {
     struct given **last = &given[entry];
     struct given *order = malloc(sizeof *order + strlen(text) + 1);
@@ -39,7 +39,7 @@ static void order_given(size_t entry, const char *text, uint64_t now)
         return;
     }
     order->next = NULL;
-    order->since = now;
+    order->number = number;
     strcpy(order->text, text);
     while (*last != NULL) {
         last = &(*last)->next;
@@ -47,48 +47,51 @@ static void order_given(size_t entry, const char *text, uint64_t now)
     *last = order;
 }
 
-void order_ended(size_t entry)
+void order_ended(size_t entry, uint64_t number)
 {
     struct given *first = given[entry];
-    if (first != NULL) {
+    if (first != NULL && first->number == number) { /* of each reader they end in the order in which they were taken */
         given[entry] = first->next;
         free(first);
     }
 }
 
-uint64_t order_since(size_t entry)
+uint64_t first_waiting(struct osdp_panel *panel, osdp_size entry)
 {
-    return given[entry] != NULL ? given[entry]->since : UINT64_MAX;
+    uint64_t next = 0;
+    osdp_size waiting = 0;
+    (void)osdp_panel_next_number(panel, entry, &next);
+    (void)osdp_panel_waiting(panel, entry, &waiting);
+    return next - waiting;
 }
 
-/* How many orders of a reader have had no end. */
-static size_t given_count(size_t entry)
+/* The same of a reader's orders. */
+static void tell_own_ends(size_t entry, uint64_t waits, const char *cause)
 {
-    size_t count = 0;
-    for (const struct given *each = given[entry]; each != NULL; each = each->next) {
-        count++;
+    for (const struct given *first = given[entry]; first != NULL; first = given[entry]) {
+        if (first->number < waits) {
+            tell("lost %zu %s %s\n", entry + 1, cause, first->text);
+        } else {
+            tell("withdrawn %zu %s\n", entry + 1, first->text);
+        }
+        order_ended(entry, first->number);
     }
-    return count;
 }
 
 void tell_ends(struct osdp_panel *panel, const char *cause)
 {
-    osdp_size waiting;
-    for (size_t i = 0; known_reader(i) != NULL && osdp_panel_waiting(panel, i, &waiting) == OSDP_OK; i++) {
-        for (; given[i] != NULL; order_ended(i)) {
-            if (given_count(i) > waiting) {
-                tell("lost %zu %s %s\n", i + 1, cause, given[i]->text);
-            } else {
-                tell("withdrawn %zu %s\n", i + 1, given[i]->text);
-            }
-        }
+    for (size_t i = 0; known_reader(i) != NULL; i++) {
+        tell_own_ends(i, first_waiting(panel, i), cause);
     }
 }
 
-/* Why an order isn't submitted, where it would be stale, or be for another device, or leave a reader where nobody finds it; else NULL. */
+/* Why an order isn't submitted, where it may be of long ago, or wait for long, or be for another device, or leave a reader where nobody finds it; else NULL. */
 static const char *refusal(const struct known *reader, const char *text)
 {
     struct place place;
+    if (was_stopped()) {
+        return "given while the program was stopped";
+    }
     if (!is_open(reader)) {
         return "session not open";
     }
@@ -131,7 +134,8 @@ static bool submit(struct osdp_panel *panel, size_t entry, const char *text, uin
         tell("refused its place can't be kept\n");
         return false;
     }
-    osdp_status status = osdp_panel_submit_text(panel, entry, text, strlen(text));
+    uint64_t number;
+    osdp_status status = osdp_panel_submit_text(panel, entry, text, strlen(text), now + late_by(), &number);
     if (status != OSDP_OK) {
         if (moves) {
             comset_over(reader);
@@ -139,7 +143,7 @@ static bool submit(struct osdp_panel *panel, size_t entry, const char *text, uin
         tell_why(status, entry, text);
         return false;
     }
-    order_given(entry, text + strspn(text, " "), now);
+    order_given(entry, number, text + strspn(text, " "));
     return true;
 }
 

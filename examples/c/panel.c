@@ -17,9 +17,10 @@ static const char usage[] =
     "A reader whose session isn't open takes no order. Where a session is lost or moved, the orders that wait are taken\n"
     "back, and told `withdrawn`. A lost session begins again after a second. Where the program ends, at Ctrl-C or since its\n"
     "port is gone, they are told so too, and an order that is under way is told `lost` and `stopped` or `port-gone`.\n"
-    "A session is let end, and is told `lost`, where a COMSET is answered neither by a COM nor by a NAK, and where the\n"
-    "program was stopped for more than `--late`: 100 to 60000 milliseconds, and 5000 where it isn't named. No order goes\n"
-    "out that was given longer ago than that: in its place the session is let end.\n"
+    "No order goes out that was given longer ago than `--late`: 100 to 60000 milliseconds, and 5000 where it isn't named.\n"
+    "One that waited until then is told `expired`, and one that was sent already `withheld` with its `lost`. Where the\n"
+    "program was stopped for longer than that, an order that was given meanwhile is refused. A session is let end, and is\n"
+    "told `lost`, where a COMSET is answered neither by a COM nor by a NAK.\n"
     "A COMSET is taken where every session is open. One with another rate is given to each reader. While no session is\n"
     "open the port goes through the rates at which readers may be, told `rate`, and tries each reader there once. Readers\n"
     "whose sessions are open keep the port at their rate. One that may be at another rate is looked for there, told\n"
@@ -42,14 +43,14 @@ static uint32_t rate;       /* of the port, while no reader is looked for at ano
 static uint32_t gap;        /* the panel's setting */
 static uint64_t answer_due; /* up to when the last burst's answer is waited for */
 
-/* A session has ended: the orders that wait are stale, and are taken back. */
+/* A session has ended: the orders that wait are taken back, since another device may answer in the next one. */
 static void close_reader(size_t entry, struct known *reader, uint64_t pause)
 {
     static struct osdp_message command;
     reader_closed(reader, moment() + pause);
-    while (osdp_panel_withdraw(&panel, entry, &command) == OSDP_OK && command.present) {
+    for (uint64_t number = first_waiting(&panel, entry); osdp_panel_withdraw(&panel, entry, &command) == OSDP_OK && command.present; number++) {
         tell("withdrawn %zu %s\n", entry + 1, command_text(&command));
-        order_ended(entry);
+        order_ended(entry, number);
         if (command.code == OSDP_COMSET) {
             comset_over(reader);
         }
@@ -68,7 +69,7 @@ static void heed(const struct osdp_report *report)
         close_reader(entry, reader, 0);
     } else if (report->kind == OSDP_REPORT_LOST) {
         close_reader(entry, reader, PAUSE);
-    } else if (report->command.code == OSDP_COMSET && report->reply.code == OSDP_NAK) {
+    } else if (report->command.code == OSDP_COMSET && (report->reply.code == OSDP_NAK || report->kind == OSDP_REPORT_EXPIRED)) {
         comset_over(reader);
     } else if (report->command.code == OSDP_COMSET) {
         leave_reader(reader); /* its answer is no COM that can be read: it is at either place, and is looked for anew */
@@ -81,8 +82,8 @@ static void take_reports(void)
     static struct osdp_report report;
     while (osdp_panel_next_report(&panel, &report) == OSDP_OK && report.kind != OSDP_REPORT_NONE) {
         tell_report(&report);
-        if (report.command.present) {
-            order_ended((size_t)report.entry);
+        if (report.numbered) {
+            order_ended((size_t)report.entry, report.number);
         }
         heed(&report);
     }
@@ -160,46 +161,33 @@ static void begin_sessions(uint64_t now)
     }
 }
 
-/* Lets each open session end: the program was stopped, and an order of before would be done now. */
-static void leave_readers(void)
+/* Does what is due. Where a burst is to go out it is asked for at the moment that it is now, and written, but for a reader that is left. */
+static void speak(osdp_panel *speaks, uint64_t now)
 {
-    for (size_t i = 0; known_reader(i) != NULL; i++) {
-        leave_reader(known_reader(i));
+    static struct osdp_burst burst;
+    uint32_t sends = 0;
+    if (osdp_panel_tick(speaks, now, &sends) != OSDP_OK || sends == 0) {
+        return;
     }
-}
-
-/* The moment since which a burst may not be late: that of the turn, or, of an order, that at which it was given. */
-static uint64_t burst_since(const struct osdp_burst *burst, size_t entry, uint64_t now)
-{
-    bool is_order = burst->bytes[5] != OSDP_POLL && burst->bytes[5] != OSDP_ID;
-    return is_order ? earlier(order_since(entry), now) : now;
-}
-
-/* Writes what a panel says, but for a reader that is left. Where it is late its reader is left too: else an order would go out late, now or once more. */
-static void write_burst(const osdp_panel *speaks, const struct osdp_burst *burst, uint64_t now)
-{
-    size_t entry = burst->length > 0 && speaks == &panel ? reader_at(burst->bytes[1]) - 1 : MOST;
-    struct known *reader = known_reader(entry);
-    if (reader == NULL) {
-        (void)write_all(port, burst, now);
-    } else if (!reader->is_left && !write_all(port, burst, burst_since(burst, entry, now))) {
-        leave_reader(reader);
+    now = moment();
+    if (osdp_panel_write(speaks, now, &burst) == OSDP_OK && burst.length > 0) {
+        const struct known *reader = speaks == &panel ? known_reader(reader_at(burst.bytes[1]) - 1) : NULL;
+        if (reader == NULL || !reader->is_left) {
+            (void)write_all(port, &burst, now);
+        }
+        answer_due = next_due(speaks);
     }
 }
 
 /* Waits for bytes, for orders or for what is due, and hands it to the panel that speaks: that of the line, or that which looks for a reader. */
 static void turn(struct lines *lines)
 {
-    static struct osdp_burst burst;
     uint8_t bytes[4096];
     osdp_panel *speaks = searching() != NULL ? searching() : &panel;
     uint64_t now; /* of the wait's end, before what is there was read */
     size_t count = read_port(port, lines, until_due(speaks), bytes, sizeof bytes, &now);
     if (osdp_panel_bytes(speaks, bytes, count, now) == OSDP_MOMENT_TOO_FAR) {
         (void)osdp_panel_set_moment(speaks, now); /* the program was stopped for more than a day */
-    }
-    if (was_stopped()) {
-        leave_readers();
     }
     (void)osdp_panel_set_moment(&panel, now); /* the line's panel too while the other one speaks: in this turn it may begin sessions again */
     take_found(now);
@@ -213,11 +201,7 @@ static void turn(struct lines *lines)
         begin_sessions(now);
         speaks = &panel;
     }
-    (void)osdp_panel_tick(speaks, now, &burst);
-    write_burst(speaks, &burst, now);
-    answer_due = burst.length > 0 ? next_due(speaks) : answer_due;
-    take_found(now);
-    take_reports();
+    speak(speaks, now);
 }
 
 /* The program ends: what becomes of the orders is told. */
@@ -235,7 +219,7 @@ static void add_reader(const char *word)
     if (name > 126) {
         stop(BAD_WORDS, "bad address: %s is above 126", word);
     }
-    osdp_status status = osdp_panel_add(&panel, join_reader(name, rate), &entry);
+    osdp_status status = osdp_panel_add(&panel, join_reader(name, rate), 0, &entry); /* no order is stored, so they are counted from 0 */
     if (status != OSDP_OK) {
         stop(status == OSDP_PANEL_NO_MEMORY ? OUT_OF_MEMORY : BAD_WORDS, "device %s: %s", word, osdp_status_text(status));
     }
@@ -277,6 +261,7 @@ int main(int count, char **words)
     demand_rates();
     gap = config.gap;
     prepare_search(&config, port);
+    hear_all();
     before_end(tell_last_ends);
     for (;;) {
         turn(&lines);

@@ -14,7 +14,8 @@ struct lines {
 /* Milliseconds of a clock that never goes backwards, and goes on while the computer sleeps. */
 uint64_t moment(void);
 
-/* How late the program may be, in milliseconds; 5000 at first. And whether more than that has passed since a moment. */
+/* How late the program may be, in milliseconds; 5000 at first. And whether more than that has passed since a moment. An order of a panel goes out until so long after
+ * it was given, or, of a card, after the card was asked for: nobody stands at the door any more then. */
 void set_late(uint32_t milliseconds);
 uint32_t late_by(void);
 bool is_too_late(uint64_t since);
@@ -36,8 +37,8 @@ bool set_rate(int port, uint32_t rate);
 /* Sets a rate that the port has; ends the program where it can't be set. */
 void demand_rate(int port, uint32_t rate);
 
-/* Writes a burst whole, if not too much has passed since a moment: that for which it was made, or that at which what it orders was given. Whether it was written:
- * one that wasn't is lost on the line for whoever made it. Ends the program where the port takes nothing for five seconds: what it holds is too old then, and is
+/* Writes a burst whole, if not too much has passed since a moment: that for which it was made. Whether it was written: one that wasn't is lost on the line for whoever
+ * made it. Ends the program where the port takes nothing for five seconds: what it holds is too old then, and is
  * dropped. */
 bool write_all(int port, const struct osdp_burst *burst, uint64_t since);
 
@@ -46,11 +47,10 @@ bool write_all(int port, const struct osdp_burst *burst, uint64_t since);
 size_t read_port(int port, struct lines *lines, uint64_t wait, uint8_t *bytes, size_t room, uint64_t *now);
 
 /* Whether the program stood still for longer than it may be late, by the last read: it was stopped, or the computer has slept, or what it did before the read took so
- * long. The bytes that had come by then are dropped, as a line may lose them. A panel lets its open sessions end, since an order or a card of before would be done
- * now. */
+ * long. The bytes that had come by then are dropped, as a line may lose them: a device would do an order that its panel has given up. */
 bool was_stopped(void);
 
-/* From now on such bytes are read too: for a program that only listens. */
+/* From now on such bytes are read too: for a program that only listens, and for a panel, which knows how old an order and a card is. */
 void hear_all(void);
 
 /* The next line, without its end; NULL where none has come whole. It stays until the next read. The last line needs no line feed. A line that is too long,

@@ -97,7 +97,7 @@ void begin_search(uint32_t rate, uint64_t now, bool is_idle)
     is_out = true;
     reader->state = SOUGHT;
     tell("looks for %zu at %u %u\n", sought + 1, (unsigned)there.address, (unsigned)there.rate);
-    if (!set_rate(line, there.rate) || osdp_panel_new(&finder, &config) != OSDP_OK || osdp_panel_add(&finder, there.address, &entry) != OSDP_OK) {
+    if (!set_rate(line, there.rate) || osdp_panel_new(&finder, &config) != OSDP_OK || osdp_panel_add(&finder, there.address, 0, &entry) != OSDP_OK) {
         tell("no search: no such rate, or out of memory\n");
         end_search(reader, false, now);
         return;
@@ -119,7 +119,9 @@ static bool fetch(struct known *reader)
     snprintf(comset, sizeof comset, "COMSET %u %u", (unsigned)to.address, (unsigned)to.rate);
     tell("ordered %zu %s\n", sought + 1, comset);
     static struct osdp_message command;
-    return osdp_comset(to.address, to.rate, &command) == OSDP_OK && osdp_panel_submit(&finder, 0, command.code, command.data, command.length) == OSDP_OK;
+    uint64_t number;
+    return osdp_comset(to.address, to.rate, &command) == OSDP_OK &&
+           osdp_panel_submit(&finder, 0, command.code, command.data, command.length, OSDP_NEVER, &number) == OSDP_OK; /* a reader may come back at any moment */
 }
 
 void take_found(uint64_t now)

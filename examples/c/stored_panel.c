@@ -1,18 +1,19 @@
 /* A panel that stores its orders and its reports: `stored_panel [--new] [--retain N] STORE PORT RATE`. The door is the device at address 5, or where STORE has it, which two
  * cards open. `--new` makes STORE. It keeps N ended orders and N handled events, 1000 if not said, beside all others.
  *
- * Each line is an order, such as `OUT 1:2:0`. It is stored before it is given, and each report before it is acted on, both in the transaction of their turn, which ends before
- * the packet of that turn goes out. So the program may be ended at any moment, also by a loss of power: when it starts again it tells which orders are in doubt, makes no
+ * Each line is an order, such as `OUT 1:2:0`. It is stored before it is given, by the number that it has in the panel, and each report before it is acted on, both in the
+ * transaction of their turn, which ends before the packet of that turn goes out. So the program may be ended at any moment, also by a loss of power: when it starts again it tells which orders are in doubt, makes no
  * second order for a card, and acts on no order twice. `again:` stands before what it tells then, and may have told already. After a COMSET it looks for the door at both
  * places. Another device in the door's place gets no order.
  *
- * No order goes out that was given longer ago than the program may be late, however long the disk takes: it is in doubt then. Where STORE can't be written the program ends
- * with status 3, and nothing of that turn has happened. */
+ * No order goes out later than `--late` after it was given, or after its card was asked for, however long the disk takes. One that waited until then is taken back (`back`), and
+ * one that was sent already is in doubt. Where STORE can't be written the program ends with status 3, and nothing of that turn has happened. */
 #include <stdio.h>
 #include <string.h>
 
 #include "kept.h"
 #include "ledger.h"
+#include "orders.h"
 #include "port.h"
 #include "store.h"
 #include "words.h"
@@ -21,7 +22,6 @@
 #define PAUSE 1000 /* from a session that was lost to the next one, in milliseconds */
 #define NEVER UINT64_MAX
 #define ORDERS 16 /* how many orders may wait */
-#define GIVEN (ORDERS + 2)
 #define STANDS 64
 
 static osdp_panel panel;
@@ -29,11 +29,7 @@ static osdp_size entry;
 static int port;
 static struct stand stands[STANDS], *door;
 static size_t stand_count;
-/* What the panel has, the first one first: an order by its number, or a question after the state by 0, and when it was given. */
-static struct {
-    uint64_t number, since;
-} given[GIVEN];
-static size_t given_count;
+static bool is_asked;           /* whether the question after the state has no end yet */
 static uint64_t begins;         /* the moment at which the next session begins; NEVER while one goes on */
 static bool is_new = true;      /* since the start no event was reported */
 static bool is_left;            /* whether nothing more is said to the device, so that its session ends */
@@ -48,12 +44,6 @@ static bool may_enter(const struct osdp_raw *card)
     return card->bits == 26 && (memcmp(card->bytes, cards[0], 4) == 0 || memcmp(card->bytes, cards[1], 4) == 0);
 }
 
-/* An order, or a card, of before would open the door now. So the session is left until it is lost: what isn't written the line has lost. */
-static void leave(void)
-{
-    is_left = is_left || begins == NEVER;
-}
-
 /* The door is here, and nowhere else. */
 static void stand_at(struct place place)
 {
@@ -61,23 +51,18 @@ static void stand_at(struct place place)
     demand_store(write_stand(door));
 }
 
-/* Notes what the panel has taken. */
-static void add_given(uint64_t number, uint64_t now)
+/* Gives an order, which is stored with the turn, and goes out until a moment. Whether the panel has taken it. */
+static bool give(const char *text, uint64_t now, uint64_t until)
 {
-    given[given_count].number = number;
-    given[given_count++].since = now;
-}
-
-/* Gives an order, which is stored with the turn. Whether the panel has taken it. */
-static bool order(const char *text, uint64_t now)
-{
-    uint64_t number = note_order(text, late_by());
-    osdp_status status = osdp_panel_submit_text(&panel, entry, text, strlen(text));
+    uint64_t number = 0;
+    (void)osdp_panel_next_number(&panel, entry, &number);
+    note_order(number, text, until > now ? until - now : 0);
+    osdp_status status = osdp_panel_submit_text(&panel, entry, text, strlen(text), until, &number);
     if (status != OSDP_OK) {
-        note_end(number, "refused", osdp_status_text(status));
+        drop_order(number);
+        say("refused (%s) %s\n", osdp_status_text(status), text);
         return false;
     }
-    add_given(number, now);
     say("order %llu %s\n", (unsigned long long)number, text);
     return true;
 }
@@ -91,56 +76,57 @@ static bool move(const char *text, uint64_t now)
         || is_taken(stands, stand_count, door, address)) {
         return false;
     }
-    if (order(text, now)) {
+    if (give(text, now, now + late_by())) {
         may_move(door, (struct place){ address, rate });
         demand_store(write_stand(door));
     }
     return true;
 }
 
-/* The first thing that the panel has is over: an order, which is settled so, or in doubt where there is no answer, or the question after the state. */
-static void ended(const char *state, const char *answer)
+/* An order has its end: it is settled so, or taken back, or in doubt where no state is named. The question after the state isn't stored: it may be asked twice. */
+static void ended(const struct osdp_message *command, uint64_t number, const char *state, const char *answer)
 {
-    uint64_t number = given[0].number;
-    memmove(given, given + 1, --given_count * sizeof given[0]);
-    if (number == 0 && answer != NULL) {
+    bool is_question = command->code == OSDP_OSTAT;
+    is_asked = is_asked && !is_question;
+    if (is_question && answer != NULL) {
         say("state %s\n", answer);
         heard_all();
-    } else if (number != 0 && state == NULL) {
+    } else if (!is_question && state == NULL) {
         doubt(number);
-    } else if (number != 0) {
+    } else if (!is_question) {
         note_end(number, state, answer);
     }
 }
 
-/* A session has ended. Orders of long ago open no door: those that wait are taken back. */
+/* An order was never sent. A COMSET sends the door nowhere then. */
+static void take_back(const struct osdp_message *command, uint64_t number)
+{
+    ended(command, number, "back", NULL);
+    if (command->code == OSDP_COMSET) {
+        stand_at(place_of(door));
+    }
+}
+
+/* A session has ended: the orders that wait are taken back, since another device may answer in the next one. */
 static void close_session(uint64_t until)
 {
     static struct osdp_message command;
-    while (osdp_panel_withdraw(&panel, entry, &command) == OSDP_OK && command.present) {
-        ended("back", NULL);
-        if (command.code == OSDP_COMSET) {
-            stand_at(place_of(door));
-        }
+    for (uint64_t number = first_waiting(&panel, entry); osdp_panel_withdraw(&panel, entry, &command) == OSDP_OK && command.present; number++) {
+        take_back(&command, number);
     }
     begins = until;
     is_left = false;
 }
 
-/* Asks for the state of the outputs, before anybody gives an order in doubt again. It may be asked twice, so it isn't stored. */
-static void ask(uint64_t now)
+/* Asks for the state of the outputs, before anybody gives an order in doubt again. A question is never too late. */
+static void ask(void)
 {
-    bool asks = false;
-    for (size_t i = 0; i < given_count; i++) {
-        asks = asks || given[i].number == 0;
-    }
-    if (any_doubt() && !asks && osdp_panel_submit_text(&panel, entry, "OSTAT", 5) == OSDP_OK) {
-        add_given(0, now);
-    }
+    uint64_t number;
+    is_asked = is_asked || (any_doubt() && osdp_panel_submit_text(&panel, entry, "OSTAT", 5, OSDP_NEVER, &number) == OSDP_OK);
 }
 
 /* Another device than the door gets no order: its session is let end, and the door is looked for at its next place. */
-static void opened(const struct osdp_report *report, uint64_t now)
+static void opened(const struct osdp_report *report)
 {
     struct osdp_pd_id id = { 0 };
     struct place place = place_of(door);
@@ -151,7 +137,7 @@ static void opened(const struct osdp_report *report, uint64_t now)
         is_other = false;
         stand_at(place);
         say("opened %s\n", reply_text(&report->reply));
-        ask(now);
+        ask();
         return;
     }
     if (!is_other || !is_same_device(&other, &id) || !is_same_place(there, place)) {
@@ -164,11 +150,11 @@ static void opened(const struct osdp_report *report, uint64_t now)
 
 static void settled(const struct osdp_report *report)
 {
-    ended("settled", reply_text(&report->reply));
+    ended(&report->command, report->number, "settled", reply_text(&report->reply));
     if (report->command.code == OSDP_COMSET && report->reply.code == OSDP_NAK) {
         stand_at(place_of(door));
     } else if (report->command.code == OSDP_COMSET) {
-        leave(); /* after another answer it is at either place */
+        is_left = true; /* after another answer it is at either place */
     }
 }
 
@@ -177,7 +163,7 @@ static void moved(const struct osdp_report *report, uint64_t now)
 {
     struct osdp_communication com = { 0 };
     (void)osdp_com_of(&report->reply, &com); /* what moved a device is a COM */
-    ended("settled", reply_text(&report->reply));
+    ended(&report->command, report->number, "settled", reply_text(&report->reply));
     if (!has_rate(com.baud_rate)) {
         say("no rate %u\n", (unsigned)com.baud_rate);
         com.baud_rate = place_of(door).rate;
@@ -187,17 +173,25 @@ static void moved(const struct osdp_report *report, uint64_t now)
 }
 
 /* An answer can't be read. What became of an order that it answers nobody knows; there is none where it answers a POLL. */
-static void unread(const struct osdp_report *report, uint64_t now)
+static void unread(const struct osdp_report *report)
 {
     say("unread code %02X\n", (unsigned)report->detail);
-    if (report->command.present) {
-        ended(NULL, NULL);
+    if (report->numbered) {
+        ended(&report->command, report->number, NULL, NULL);
     }
-    if (report->command.present && report->command.code == OSDP_COMSET) {
-        leave();
+    if (report->command.code == OSDP_COMSET) {
+        is_left = true;
     } else {
-        ask(now);
+        ask();
     }
+}
+
+static void lost(const struct osdp_report *report, uint64_t now)
+{
+    if (report->numbered) {
+        ended(&report->command, report->number, NULL, NULL);
+    }
+    close_session(now + PAUSE);
 }
 
 /* Stores an event, and opens the door for a card. One that may have been reported before makes no second order: the panel has marked it, or it is the first one since
@@ -211,27 +205,26 @@ static void take_event(const struct osdp_report *report, uint64_t now)
     note_event(text, is_again);
     say("%s %s\n", is_again ? "maybe again" : "event", text);
     if (!is_again && !is_left && osdp_raw_of(&report->reply, &card) == OSDP_OK && may_enter(&card)) {
-        (void)order("OUT 0:5:30", now); /* output 0, on for three seconds */
+        (void)give("OUT 0:5:30", now, report->since + late_by()); /* output 0, on for three seconds */
     }
 }
 
 static void take_report(const struct osdp_report *report, uint64_t now)
 {
     if (report->kind == OSDP_REPORT_OPENED) {
-        opened(report, now);
+        opened(report);
     } else if (report->kind == OSDP_REPORT_SETTLED) {
         settled(report);
     } else if (report->kind == OSDP_REPORT_MOVED) {
         moved(report, now);
     } else if (report->kind == OSDP_REPORT_UNREAD) {
-        unread(report, now);
+        unread(report);
     } else if (report->kind == OSDP_REPORT_EVENT) {
         take_event(report, now);
     } else if (report->kind == OSDP_REPORT_LOST) {
-        if (report->command.present) {
-            ended(NULL, NULL);
-        }
-        close_session(now + PAUSE);
+        lost(report, now);
+    } else if (report->kind == OSDP_REPORT_EXPIRED) {
+        take_back(&report->command, report->number);
     }
 }
 
@@ -259,7 +252,7 @@ static void take_line(const char *line, uint64_t now)
     } else if (line[0] == '\0' || is_command(line, "OSTAT") || (is_command(line, "COMSET") && !move(line, now))) {
         say("refused line\n");
     } else if (!is_command(line, "COMSET")) {
-        (void)order(line, now);
+        (void)give(line, now, now + late_by());
     }
 }
 
@@ -285,24 +278,23 @@ static uint64_t wait_for(uint64_t now)
     return until == NEVER ? NEVER : until > now ? until - now : 0;
 }
 
-/* Writes what the panel says, if it isn't late: the disk may take long. Else the session is let end: an order would go out late, now or once more. */
-static void write_burst(const struct osdp_burst *burst, uint64_t now)
+/* Writes what the panel's tick has made, at the moment that it is now: the disk may have taken long. */
+static void write_burst(void)
 {
-    bool is_order = burst->length > 0 && burst->bytes[5] != OSDP_POLL && burst->bytes[5] != OSDP_ID && given_count > 0;
-    uint64_t since = is_order && given[0].since < now ? given[0].since : now;
-    is_left = is_left || !write_all(port, burst, since);
+    static struct osdp_burst burst;
+    uint64_t now = moment();
+    if (osdp_panel_write(&panel, now, &burst) == OSDP_OK && !is_left) {
+        (void)write_all(port, &burst, now);
+    }
 }
 
 static void turn(struct lines *lines)
 {
     static uint8_t bytes[4096];
-    static struct osdp_burst burst;
+    uint32_t sends = 0;
     uint64_t now; /* of the wait's end, before what is there was read */
     size_t length = read_port(port, lines, wait_for(moment()), bytes, sizeof bytes, &now);
     begin_turn();
-    if (was_stopped()) {
-        leave(); /* a card, or an order, of before would open the door now */
-    }
     (void)osdp_panel_set_moment(&panel, now); /* also where the program was stopped for more than a day */
     (void)osdp_panel_bytes(&panel, bytes, length, now);
     take_reports(now);
@@ -310,11 +302,10 @@ static void turn(struct lines *lines)
         take_line(line, now);
     }
     begin(now);
-    (void)osdp_panel_tick(&panel, now, &burst);
-    take_reports(now);
+    (void)osdp_panel_tick(&panel, now, &sends);
     end_turn(); /* before the packet goes out: by that the device may forget an event */
-    if (!is_left) {
-        write_burst(&burst, now);
+    if (sends != 0) {
+        write_burst();
     }
 }
 
@@ -332,13 +323,14 @@ int main(int count, char **words)
     door = stand_of(stands, &stand_count, STANDS, NAME, rate);
     demand_store(keep_stands(stands, stand_count));
     osdp_status status = osdp_panel_new(&panel, &config);
-    status = status == OSDP_OK ? osdp_panel_add(&panel, place_of(door).address, &entry) : status;
+    status = status == OSDP_OK ? osdp_panel_add(&panel, place_of(door).address, next_order(NAME), &entry) : status;
     if (status != OSDP_OK) {
         stop(OUT_OF_MEMORY, "%s", osdp_status_text(status));
     }
     port = open_port(words[1], rate);
     open_ledger(NAME, kept.retain);
     end_turn();
+    hear_all();
     for (;;) {
         turn(&lines);
     }

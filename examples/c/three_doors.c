@@ -29,14 +29,15 @@ static bool may_enter(const struct osdp_raw *card, size_t door)
     return false;
 }
 
-/* The strike, output 0, and a green LED, both for a time: orders, which a reader that comes back doesn't get again. */
-static void unlock(size_t door)
+/* The strike, output 0, and a green LED, both for a time: orders, which a reader that comes back doesn't get again, and which go out until this moment alone. */
+static void unlock(size_t door, uint64_t until)
 {
     static struct osdp_message command;
+    uint64_t order;
     osdp_output_for(0, UNLOCK, &command);
-    if (osdp_site_order(&site, &panel, door, &command)) {
+    if (osdp_site_order(&site, &panel, door, &command, until, &order)) {
         osdp_color_for(OSDP_COLOR_GREEN, UNLOCK, &command);
-        (void)osdp_site_order(&site, &panel, door, &command);
+        (void)osdp_site_order(&site, &panel, door, &command, until, &order);
     }
 }
 
@@ -65,12 +66,13 @@ static void take_report(void *of, const struct osdp_report *report, bool has_cha
     static struct osdp_message stale;
     static const struct osdp_message asks = { .present = 1, .code = OSDP_ISTAT };
     size_t door = (size_t)report->entry;
+    uint64_t order;
     if (has_changed) {
         tell("door %zu is %s\n", door + 1, entries[door].is_online ? "online" : "offline");
-        (void)osdp_site_order(&site, &panel, door, &asks);
+        (void)osdp_site_order(&site, &panel, door, &asks, OSDP_NEVER, &order); /* a question is never too late */
     }
-    if (report->kind == OSDP_REPORT_LOST && report->command.present) {
-        tell_report(report); /* the order that was under way: it may have been done or not */
+    if (report->command.present && (report->kind == OSDP_REPORT_LOST || report->kind == OSDP_REPORT_EXPIRED)) {
+        tell_report(report); /* the order that was under way, which may have been done or not, or one that was too old to go out */
     }
     while (report->kind == OSDP_REPORT_LOST && osdp_panel_withdraw(&panel, door, &stale) == OSDP_OK && stale.present) {
         tell("withdrawn %zu %s\n", door + 1, command_text(&stale));
@@ -78,9 +80,9 @@ static void take_report(void *of, const struct osdp_report *report, bool has_cha
     if (osdp_inputs_of(&report->reply, &inputs) == OSDP_OK && inputs.length > 0) {
         take_contact(door, inputs.states[0] == OSDP_STATE_ACTIVE, now);
     }
-    /* a card that may have been told before unlocks nothing again */
+    /* a card that may have been told before unlocks nothing again, and one that is older than `--late` nothing at all */
     if (report->kind == OSDP_REPORT_EVENT && report->detail != OSDP_EVENT_MAYBE_AGAIN && osdp_raw_of(&report->reply, &card) == OSDP_OK && may_enter(&card, door)) {
-        unlock(door);
+        unlock(door, report->since + late_by());
     }
 }
 
@@ -106,7 +108,7 @@ static osdp_status make(uint64_t now)
     osdp_color(OSDP_COLOR_RED, &red);
     osdp_size door;
     for (size_t i = 0; i < DOORS && status == OSDP_OK; i++) {
-        status = osdp_panel_add(&panel, (uint32_t)i + 1, &door);
+        status = osdp_panel_add(&panel, (uint32_t)i + 1, 0, &door);
         (void)osdp_site_wants(&site, i, &red);
         take_contact(i, false, now);
     }
@@ -124,16 +126,15 @@ int main(int count, char **words)
         stop(OUT_OF_MEMORY, "%s", osdp_status_text(status));
     }
     int port = open_port(words[0], number(words[1], "rate"));
+    hear_all();
     for (;;) {
         uint64_t now, wait = osdp_site_wait(&site, &panel, moment(), 100);
         size_t length = read_port(port, &lines, wait, bytes, sizeof bytes, &now);
         watch(now);
-        if (was_stopped()) {
-            osdp_site_leave(&site); /* a card, or an order, of before would open a door now */
-        }
-        osdp_site_turn(&site, &panel, bytes, length, now, take_report, NULL, &burst);
-        if (!write_all(port, &burst, now)) {
-            osdp_site_leave(&site); /* it is late: an order would go out late */
+        bool sends = osdp_site_turn(&site, &panel, bytes, length, now, take_report, NULL);
+        now = moment(); /* what was done since the wait may have taken long */
+        if (sends && osdp_panel_write(&panel, now, &burst) == OSDP_OK) {
+            (void)write_all(port, &burst, now);
         }
     }
 }

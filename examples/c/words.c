@@ -157,11 +157,11 @@ bool tell_refusal(osdp_status status)
 
 void tell_report(const struct osdp_report *report)
 {
-    static const char *const names[] = { "", "opened", "settled", "moved", "event", "answered", "unread", "lost" };
+    static const char *const names[] = { "", "opened", "settled", "moved", "event", "answered", "unread", "lost", "expired" };
     static const char *const causes[] = { "", "no-reply", "too-busy", "number-refused" };
-    tell("%s %zu", names[report->kind & 7], (size_t)report->entry + 1);
+    tell("%s %zu", report->kind <= OSDP_REPORT_EXPIRED ? names[report->kind] : "", (size_t)report->entry + 1);
     if (report->kind == OSDP_REPORT_LOST) {
-        tell(" %s", causes[report->detail & 3]);
+        tell(" %s%s", causes[report->detail & 3], report->too_late ? " withheld" : "");
     } else if (report->kind == OSDP_REPORT_UNREAD) {
         tell(" code %02X", (unsigned)report->detail);
     }

@@ -6,10 +6,11 @@ OFTEN = 40  # so many packets to a device are looked at
 
 
 class Advice:
-    """Watches what a panel sends, what comes and what is told."""
+    """Watches what a panel sends, what comes and what is told. `ways` is how to search, and how to see what
+    comes: by commands, where nothing else is given."""
 
-    def __init__(self, say, port):
-        self.say, self.port = say, port
+    def __init__(self, say, port, ways=None):
+        self.say, self.port, self.ways = say, port, ways
         self.sent_before = {}  # the last packet to each address
         self.repeats = {}  # of the last packets to each address, whether they were repeats
         self.came_since = 0  # bytes since the last packet went out, without its echo
@@ -63,7 +64,7 @@ class Advice:
             self.is_refused(words[-2:], words[2] if words[0] == "passed" else words[1])
 
     def is_lost(self, address, cause):
-        find, show = (
+        find, show = self.ways or (
             f"osdp-port {self.port.path} {self.port.rate} {command}" for command in ("find", "show")
         )
         if cause == "no-reply" and address in self.reached and not self.has_come.get(address):

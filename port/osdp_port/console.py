@@ -6,13 +6,22 @@ import signal
 import sys
 import threading
 import time
+from typing import NamedTuple
 
 from .faults import FAILED, Stop, shown
+from .turns import moment
 
 LONGEST = 8192  # how many characters a line has at most
 # Ctrl-C, what a service manager sends, and that the terminal is closed
 STOPS = (signal.SIGINT, signal.SIGTERM, signal.SIGHUP)
 STUCK = 0.3  # how many seconds after Ctrl-C what is printed may wait for whoever reads it
+
+
+class Typed(NamedTuple):
+    """A line of standard input, none where it is no text; and a moment before which it wasn't typed."""
+
+    text: str | None
+    since: int
 
 
 def write_all(end, data):
@@ -36,6 +45,7 @@ class Console:
     def __init__(self, has_times=True):
         self.has_times = has_times
         self.rest, self.is_over = b"", sys.stdin is None
+        self.empty_at = moment()  # when standard input was last seen empty: what is read was typed since
         self.stops, self.stopped_at = 0, 0.0  # how often Ctrl-C was typed, and when first
         self.printing = {}  # since when each thread waits until what it prints is read
         # whether the main thread waits until a program beside takes what it is handed
@@ -138,7 +148,9 @@ class Console:
 
     def lines(self):
         """The lines that have come. The last one needs no line feed. One that is no text comes as None."""
+        looks_at = moment()  # before the look: a program that is stopped in between takes no line for younger
         if self.is_over or not select.select([0], [], [], 0)[0]:
+            self.empty_at = looks_at
             return []
         try:
             piece = os.read(0, 4096)
@@ -150,7 +162,8 @@ class Console:
                 )
         *whole, rest = (self.rest + piece).split(b"\n")
         self.is_over, self.rest = not piece, rest[:LONGEST + 1]
-        return [self.text(line) for line in (whole + [rest] if self.is_over and rest else whole)]
+        whole += [rest] if self.is_over and rest else []
+        return [Typed(self.text(line), self.empty_at) for line in whole]
 
     def all_lines(self):
         """All lines that are there."""

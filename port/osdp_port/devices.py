@@ -3,13 +3,16 @@ from .faults import BAD_WORDS, Stop
 from .rounds import Entry, Place
 
 MOST = 16  # devices of a line
+FIRST = 1  # the number of the first order of a device, where no store knows another one
 
 
 class Device(Entry):
     """A device, and what the panel knows of it."""
 
-    def __init__(self, number, name, places, identity=None):
+    def __init__(self, number, name, places, identity=None, next_order=FIRST):
         super().__init__(number, name, places)
+        self.next_order = next_order  # the number that its next order gets, as `osdp` counts them
+        self.given = ""  # the text of the order that was handed over last
         self.identity = identity  # vendor, model and serial number of the device that stood here
         self.other = None  # those of another one that was met last, and gets no order
         self.other_place = None  # where that one stands
@@ -18,7 +21,7 @@ class Device(Entry):
 
     def awaits_move(self):
         """Whether a COMSET waits in `osdp` or is on its way: its new place stays kept."""
-        return any(text.startswith("COMSET ") for text in self.orders)
+        return any(text.startswith("COMSET ") for text in self.orders.values())
 
 
 def new_devices(names, rate, kept):
@@ -36,7 +39,8 @@ def new_devices(names, rate, kept):
     if why:
         raise Stop(why)
     return [Device(str(at), name, known[name].places if name in known else [Place(name, rate)],
-                   known[name].identity if name in known else None)
+                   known[name].identity if name in known else None,
+                   kept.next_order(name) if kept else FIRST)
             for at, name in enumerate(names, 1)]
 
 

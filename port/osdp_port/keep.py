@@ -4,7 +4,9 @@ import re
 
 from .faults import FAILED, Stop
 from .rounds import Place
-from .store import Store, StoreError
+from .store import Store, StoreError, moment
+
+FOREVER = 2 ** 63 - 1  # the last moment of an order that never grows too old
 
 
 def private(path, flags):
@@ -104,7 +106,7 @@ def is_same_port(name, other):
 
 
 class PanelPlaces(Kept):
-    """The places of the devices of a line, by the address that each was named by at the first start, and whose line it is."""
+    """The places of the devices of a line, by the address that each was named by at the first start, their orders, and whose line it is."""
 
     role = "panel"
 
@@ -131,6 +133,43 @@ class PanelPlaces(Kept):
         except StoreError as error:
             return str(error)
         return None
+
+    # orders
+
+    def next_order(self, name):
+        """The number that the next order of a device gets."""
+        return self.store.next_order(name)
+
+    def does(self, write, *values):
+        """Writes something, and ends the transaction. Why it isn't stored; none where it is."""
+        try:
+            write(*values)
+            self.store.commit()
+        except StoreError as error:
+            return str(error)
+        return None
+
+    def gives(self, name, number, text, until):
+        """Stores an order that is about to be given, by the number that it will have, and the milliseconds for which it may go out; none where it may for ever."""
+        last = FOREVER if until is None else moment() + until
+        return self.does(self.store.gives, name, number, text, last)
+
+    def forgets(self, name, number):
+        """An order wasn't taken: the next one gets its number."""
+        return self.does(self.store.forgets, name, number)
+
+    def ends(self, name, number, state, answer=None):
+        """Stores the end of an order, which is told in the same turn."""
+        return self.does(self.store.ends, name, number, state, answer, True)
+
+    def left(self, name):
+        """The orders of a run before that have no end: their numbers and texts. They are in doubt from now on."""
+        found = self.store.open_orders(name)
+        for number, _ in found:
+            self.ends(name, number, "doubt")
+        return found
+
+    # places
 
     def write(self, entries):
         """Keeps the places of these devices, beside those of devices that aren't here now. Why they aren't kept; none where they are."""

@@ -14,12 +14,13 @@ class LineRate:
         self.goal = rate if len({place.rate for device in devices for place in device.places}) > 1 else None
         self.has_turned_back = False  # whether the goal is the old rate again
 
-    def goes_to(self, rate, first):
-        """Another rate was ordered, of the first device already: each other one gets it too."""
+    def goes_to(self, rate, first, since):
+        """Another rate was ordered, of the first device already: each other one gets it too, by an order of
+        the same age."""
         self.goal, self.has_turned_back = rate, False
         for other in self.devices:
             if other is not first:
-                self.submit(other, f"COMSET {other.address} {rate}")
+                self.submit(other, f"COMSET {other.address} {rate}", since)
 
     def gather(self, device):
         """A device that is found at another rate than those that have moved is given a COMSET for that

@@ -7,25 +7,18 @@ from .console import Console, wait_for
 from .faults import BAD_WORDS, FAILED, NO_PROGRAM, Stop
 from .keep import PanelPlaces, ReaderPlace
 from .devices import at_one_rate, first_rate, new_devices
-from .panel import SETTINGS, Panel
+from .panel import LASTS, SETTINGS, Panel
 from .program import Lines, find_program
 from .reader import ABSENT, Reader
 from .serial_port import Port, needs_pyserial, sets_rate
 from .shown import Shown
 from .trace import Bursts, Trace, digits, osdpcap
-from .turns import CLOCK, LATE, LONGEST, Turns
+from .turns import LATE, LONGEST, Turns, moment
 from .words import Words, addresses, bad, help_of
 
-START = time.clock_gettime(CLOCK)
 TESTS = {"device": testing.test, "panel": panel_testing.test_panel, "script": scripts.run}
 END = 5.0  # how many seconds after Ctrl-C answers to orders are waited for
 QUITS = ("quit", "exit", "q")  # the lines that end a panel or a reader as Ctrl-C does
-
-
-def moment():
-    """Milliseconds since the start, by a clock that never goes backwards, and goes on while the computer
-    sleeps: a card of before its sleep is an old one."""
-    return int((time.clock_gettime(CLOCK) - START) * 1000)
 
 
 def taps(words, port, console, osdp):
@@ -56,12 +49,12 @@ def taps(words, port, console, osdp):
 def until_quit(lines, console):
     """The lines before the first one that ends the program. It ends as by Ctrl-C, and no line after that is
     taken."""
-    at = next((at for at, line in enumerate(lines) if line in QUITS), None)
+    at = next((at for at, line in enumerate(lines) if line.text in QUITS), None)
     if at is None:
         return lines
     console.quits()
     for line in lines[at + 1:]:
-        console.say(f"not taken {line or 'a line'}: the program ends")
+        console.say(f"not taken {line.text or 'a line'}: the program ends")
     return lines[:at]
 
 
@@ -112,7 +105,8 @@ def panel(words, port, console, osdp, kept, devices):
     )
     console.say("help prints the orders; quit or Ctrl-C ends the panel")
     machine = Panel(port, program, devices, moment, says_for_panel(port, console), kept)
-    return runs(machine, port, console, ends, words.get("--late", LATE))
+    machine.lasts = words.get("--until", LASTS)
+    return runs(machine, port, console, ends)
 
 
 def reader(words, port, console, osdp, kept, place):
@@ -131,13 +125,13 @@ def reader(words, port, console, osdp, kept, place):
         console.say,
         kept,
     )
-    return runs(machine, port, console, ends, words.get("--late", LATE))
+    machine.late = words.get("--late", LATE)
+    return runs(machine, port, console, ends)
 
 
-def runs(machine, port, console, ends, late):
+def runs(machine, port, console, ends):
     """Runs it, and ends all that stands beside it. The status: 1 where something was met, 3 where the trace
     has failed, or the places aren't kept."""
-    machine.late = late
     try:
         goes_on(machine, port, console)
     finally:
@@ -202,8 +196,18 @@ def page(words, console, osdp):
     try:
         from .page.start import page as shows
     except ModuleNotFoundError:
-        raise Stop("the page isn't there: call  sudo apt-get install osdp-page", NO_PROGRAM) from None
+        why = "the page isn't there: call  sudo apt install ./osdp-page_*.deb  where the packages are"
+        raise Stop(why, NO_PROGRAM) from None
     return shows(words, console, osdp, moment, goes_on)
+
+
+def serve(words, console, osdp):
+    """Runs a line as a service. The status."""
+    try:
+        from .serve.start import serve as serves
+    except ModuleNotFoundError:
+        raise Stop("the service isn't there: call  sudo apt-get install osdp-service", NO_PROGRAM) from None
+    return serves(words, console, osdp, moment)
 
 
 def tests(words, port, console, osdp):
@@ -219,6 +223,7 @@ STARTS = {
     "find": on_port(find.find, False),
     "test": on_port(tests, False),
     "page": page,
+    "serve": serve,
 }
 
 

@@ -1,18 +1,22 @@
-"""The orders that are typed to a panel: which are taken, and which would be stale, or leave a device where
-nobody finds it."""
+"""The orders that are typed to a panel: which are taken, until when each may go out, and which would leave a
+device where nobody finds it."""
 from . import doors
 from .faults import Refused, is_number
 from .rounds import Place
-from .turns import AGAIN
 
+# For how many milliseconds an order may go out after it was typed. An exchange of a device that is busy takes
+# 3.8 s, and an order after it still goes out. Who stands at a door that hasn't opened for 5 s tries again,
+# or has left.
+LASTS = 5000
 FAULTS = {
     "line": "osdp doesn't read this command: man osdp-panel has them",
     "B3": "that address is another device's, or may be",
     "B5": "an address is 0 to 126",
-    "late": AGAIN,
+    "B7": "no number is left for another order of this device",
     "C3": "as many orders as may wait do so already",
     "C4": "osdp itself sends POLL",
 }
+LEFT = "the panel ended before it knew what became of it; it was done or not"
 
 
 class Orders:
@@ -23,16 +27,16 @@ class Orders:
         self.panel, self.say = panel, panel.say
 
     def order(self, line):
-        """Takes an order, by the address of its device."""
-        if line is None:
+        """Takes an order that was typed, by the address of its device."""
+        if line.text is None:
             self.say("refused line: it is no text, or too long")
             return
         try:
-            self.take(line.split())
+            self.take(line.text.split(), line.since)
         except Refused as refused:
-            self.say(f"not taken {line}: {refused}")
+            self.say(f"not taken {line.text}: {refused}")
 
-    def take(self, words):
+    def take(self, words, since):
         if words in (["help"], ["?"]):
             for line in doors.HELP.splitlines():
                 self.say(line)
@@ -45,11 +49,11 @@ class Orders:
         device = self.device_at(words[0])
         text = doors.command(words[1:], device.place)
         self.may_take(device, text.split())
-        if not self.submit(device, text) or not text.startswith("COMSET "):
+        if not self.submit(device, text, since) or not text.startswith("COMSET "):
             return
         rate = int(text.split()[2])
         if rate != self.panel.rounds.rate:  # the line has one rate
-            self.panel.line_rate.goes_to(rate, device)
+            self.panel.line_rate.goes_to(rate, device, since)
 
     def device_at(self, word):
         """The device that an order names."""
@@ -63,7 +67,7 @@ class Orders:
         doors.wrong(1, word, f"the address of a device of this line: {known}; help prints all orders")
 
     def may_take(self, device, words):
-        """Refuses an order that would be stale, or leave a device where nobody finds it."""
+        """Refuses an order that nobody could do now, or that would leave a device where nobody finds it."""
         if self.panel.is_ending:
             raise Refused("the panel ends")
         if not self.panel.port.is_there:
@@ -71,10 +75,7 @@ class Orders:
         if device.session != "open":
             raise Refused(f"the session with {device.address} isn't open")
         if device.is_left:
-            raise Refused(
-                f"the session with {device.address} ends, since the program stood still: type it again once"
-                " it has opened"
-            )
+            raise Refused(f"the session with {device.address} ends: type it again once it has opened")
         if device.other:
             raise Refused(
                 f"another device stands at {device.address}: type {device.address} accept if it is the"
@@ -115,30 +116,56 @@ class Orders:
                     f"at address {address} there may be the device that began as {name}: {kept.path} says so"
                 )
 
-    def submit(self, device, text):
-        """Hands an order to `osdp`. Whether it was taken. A COMSET's new place is written down before it is
-        ordered."""
-        panel, before = self.panel, list(device.places)
+    # what is handed to `osdp`
+
+    def submit(self, device, text, since=None):
+        """Hands an order to `osdp`, which was typed at a moment, or is given now: from then on it may go out
+        for a while. Whether it was taken."""
+        panel = self.panel
+        until = None if panel.lasts is None else (panel.now if since is None else since) + panel.lasts
+        why = self.refusal(device, text, until)
+        if why:
+            self.say(f"not taken {device.address} {text}: {why}")
+        return not why
+
+    def refusal(self, device, text, until):
+        """Hands an order to `osdp`, with its last moment. Why it wasn't taken; nothing where it was."""
+        panel, places = self.panel, list(device.places)
+        why = self.not_stored(device, text, until)
+        if not why:
+            device.given = text
+            told = panel.call(f"submit {device.number} {'never' if until is None else until} {text}")
+            refusals = [each.split()[1] for each in told if each.startswith("refused ")]
+            if not refusals:
+                return ""
+            why = FAULTS.get(refusals[0], refusals[0])
+            if panel.kept:
+                panel.is_kept(panel.kept.forgets(device.name, device.next_order))
+        if device.places != places:
+            device.places = places
+            panel.keep()
+        return why
+
+    def not_stored(self, device, text, until):
+        """Stores what a restart is to know of an order, before it is given: the new place of a COMSET, and
+        its number. Why that can't be done; nothing where it is done."""
+        panel = self.panel
         if text.startswith("COMSET "):
             device.may_be(Place(*map(int, text.split()[1:3])))
             if not panel.keep():
-                device.places = before
-                self.say(
-                    f"not taken {before[0].address} {text}: the new place must be kept first, and"
-                    f" {panel.unkept}"
-                )
-                return False
-        self.say(f"ordered {device.address} {text}")
-        device.orders.append(text)
-        refusals = ["late"] if panel.is_late() else self.handed(f"submit {device.number} {text}")
-        if not refusals:
-            return True
-        device.orders.pop()
-        device.places = before
-        panel.keep()
-        self.say(f"not taken {device.address} {text}: {FAULTS.get(refusals[0], refusals[0])}")
-        return False
+                return f"the new place must be kept first, and {panel.unkept}"
+        lasts = None if until is None else until - panel.clock()
+        if panel.kept and not panel.is_kept(panel.kept.gives(device.name, device.next_order, text, lasts)):
+            return f"its number must be kept first, and {panel.unkept}"
+        return ""
 
-    def handed(self, call):
-        """Hands a call to `osdp`. Why it was refused; nothing where it wasn't."""
-        return [told.split()[1] for told in self.panel.call(call) if told.startswith("refused ")]
+    def has_end(self, device, number, state, answer):
+        """Stores the end of an order."""
+        kept = self.panel.kept
+        if kept:
+            self.panel.is_kept(kept.ends(device.name, number, state, answer))
+
+    def tells_left(self, device):
+        """Tells which orders of a run before have no end."""
+        for number, text in self.panel.kept.left(device.name) if self.panel.kept else ():
+            self.say(f"order {number} in doubt {device.address} {text}: {LEFT}")

@@ -5,34 +5,38 @@ Which orders are taken, what reports come to, which device it is, and the rate o
 own."""
 from .identities import Identities
 from .line_rate import LineRate
-from .orders import Orders
+from .orders import LASTS, Orders
 from .reports import Reports
 from .rounds import Rounds
 from .serial_port import pieces
 from .sessions import Sessions
-from .turns import AGAIN, Timed
+from .turns import LATE
 
 # What the panel's words may set otherwise. A device may be busy for some 0.8 s, and an exchange ends within
 # 3.8 s.
 SETTINGS = ("busy-limit", "4", "busy-wait", "200")
 
 
-class Panel(Timed):
+class Panel:
     """The panel. `port` writes bursts and has a rate, `clock` tells the moment, and `say` prints a line."""
 
+    lasts = LASTS  # for how many milliseconds an order may go out after it was typed; none where for ever
+    late = LATE  # a turn that comes so many milliseconds late is told
+
     def __init__(self, port, program, devices, clock, say, kept=None):
-        super().__init__(clock)
         self.port, self.program, self.devices, self.say, self.kept = port, program, devices, say, kept
+        self.clock, self.now = clock, clock()
         self.rounds, self.reports = Rounds(devices, port.rate), Reports(devices, clock, say)
         self.sessions, self.orders = Sessions(self), Orders(self)
         self.identities = Identities(devices, say, self.keep)
         self.line_rate = LineRate(devices, port.rate, say, self.orders.submit)
         self.due = None  # the moment of the next tick
-        self.is_ending = self.is_silent = False
-        self.met = 0  # what was met: how many sessions were lost, and how many orders refused
-        self.unkept = None  # why the places aren't in the file
+        self.is_ending = False
+        self.met = 0  # what was met: sessions that were lost, and orders that were refused or expired
+        self.unkept = None  # why something isn't in the store
         for device in devices:
-            self.call(f"add {device.address}")
+            self.call(f"add {device.address} {device.next_order}")
+            self.orders.tells_left(device)
 
     # calls and what they are answered
 
@@ -51,8 +55,8 @@ class Panel(Timed):
 
     def send(self, burst):
         """Writes a packet, at the rate of its device alone: at another one it would be noise. None goes to a
-        device whose session is let end, and none that would be late: for `osdp` it is lost on the line."""
-        for device in [] if self.is_silent or self.is_late() else self.devices:
+        device whose session is let end: for `osdp` it is lost on the line."""
+        for device in self.devices:
             if (
                 device.address == burst[1] & 0x7F
                 and device.place.rate == self.port.rate
@@ -62,19 +66,23 @@ class Panel(Timed):
 
     def heed(self, line):
         """Prints a report, with the address of its device, and does what it asks for."""
-        name, device, words = self.reports.parsed(line)
-        if device:
-            self.reports.prints(name, device, words)
-            self.sessions.heed(name, device, words)
-        elif name != "refused":  # which is told of the order
+        told = self.reports.parsed(line)
+        if told.device:
+            self.reports.prints(told)
+            self.sessions.heed(told)
+        elif told.name not in ("refused", "burst"):  # what was refused is told of the order
             self.say(line)
 
     def keep(self):
         """Writes down where the devices are. Whether they are kept."""
-        before, self.unkept = self.unkept, self.kept.write(self.devices) if self.kept else None
-        if self.unkept and self.unkept != before:  # else each order would tell it again
-            self.say(f"not kept: {self.unkept}")
-        return not self.unkept
+        return self.is_kept(self.kept.write(self.devices) if self.kept else None)
+
+    def is_kept(self, why):
+        """Tells why something isn't in the store, where it isn't. Whether it is."""
+        before, self.unkept = self.unkept, why
+        if why and why != before:  # else each order would tell it again
+            self.say(f"not kept: {why}")
+        return not why
 
     def order(self, line):
         """Takes an order, by the address of its device."""
@@ -84,26 +92,25 @@ class Panel(Timed):
 
     def turn(self, read, lines, now=None, stood_still=0):
         """Hands over what has come, takes orders, and begins what is due. What came while the program stood
-        still is true. What was typed then is no order now."""
-        self.begins(now)
+        still is true, and what was typed then is as old as it may be."""
+        self.now = self.clock() if now is None else now
         self.call(f"at {self.now}")
         for piece in pieces(read):
             self.call(f"bytes {piece.hex()}")
         if stood_still:
-            self.leaves(stood_still)
+            self.say(f"stood still for {stood_still / 1000:.1f} s: orders that grew too old aren't sent")
         for line in lines:
-            self.say(f"not taken {line or 'a line'}: {AGAIN}") if stood_still else self.order(line)
+            self.order(line)
         if not self.is_ending:
             self.goes_round(self.now)
-        self.call("tick")
+        if "burst" in self.call("tick"):
+            self.writes()
 
-    def leaves(self, stood_still):
-        """The program stood still: an order of before would be done long after it was given. So the session
-        of each device with orders is let end: nothing goes out to it until it is lost. Then the orders that
-        wait are taken back."""
-        self.say(f"stood still for {stood_still / 1000:.1f} s: no order of before goes out any more")
-        for device in self.devices:
-            device.is_left = device.is_left or bool(device.session != "closed" and device.orders)
+    def writes(self):
+        """A packet is to go out. Its moment is taken anew: where the program stood still since the turn
+        began, `osdp` gives none whose order has grown too old."""
+        self.call(f"at {self.clock()}")
+        self.call("write")
 
     def goes_to(self, rate, now):
         """Begins a round at another rate. One that the port can't be set to has none, until the port is
@@ -146,10 +153,9 @@ class Panel(Timed):
         return not any(device.orders for device in self.devices)
 
     def nothing_comes(self):
-        """Nothing can come any more: the moments of what is due go by without a wait, and nothing goes out,
-        so that each order gets its end."""
+        """Nothing can come any more: the moments of what is due go by without a wait, and no packet is taken
+        from `osdp`, so that each order gets its end."""
         self.ends()
-        self.is_silent = True
         for _ in range(100000):
             if self.due is None or not any(device.orders for device in self.devices):
                 return

@@ -171,7 +171,7 @@ class Reader(Timed):
         for piece in [] if stood_still else pieces(read):
             self.call(f"bytes {piece.hex()}")
         for line in lines:
-            self.say(f"refused {line or 'a line'}: {AGAIN}") if stood_still else self.line(line)
+            self.say(f"refused {line.text or 'a line'}: {AGAIN}") if stood_still else self.line(line.text)
         self.call("tick")
 
     def next_moment(self):

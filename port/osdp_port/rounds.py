@@ -39,7 +39,7 @@ class Entry:
         self.tried = []  # its places that were tried in this round
         self.sought = 0  # rounds in which it was tried in vain since it was reached
         self.is_given_up = False  # it stands at another rate and stays there
-        self.orders = []  # the texts of orders that have no end yet
+        self.orders = {}  # the texts of orders that have no end yet, by their numbers
 
     @property
     def place(self):

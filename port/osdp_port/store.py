@@ -234,11 +234,17 @@ class Store:
 
     # orders
 
-    def gives(self, device, text, until):
-        """Stores an order that is about to be given, which goes out until a moment. Its number: they count on, also over restarts."""
-        number = 1 + (self.value("SELECT max(number) FROM orders WHERE device = ?", device) or 0)
+    def next_order(self, device):
+        """The number of the next order, for the panel that is made: they go on over restarts, from 1."""
+        return 1 + (self.value("SELECT max(number) FROM orders WHERE device = ?", device) or 0)
+
+    def gives(self, device, number, text, until):
+        """Stores an order that is about to be given, by the number that the panel will give it. It may go out until a moment."""
         self.write("INSERT INTO orders (device, number, text, until) VALUES (?, ?, ?, ?)", device, number, text, until)
-        return number
+
+    def forgets(self, device, number):
+        """The panel has refused that order: the next one gets its number."""
+        self.write("DELETE FROM orders WHERE device = ? AND number = ?", device, number)
 
     def ends(self, device, number, state, answer=None, is_told=False):
         """Stores what became of an order, and whether that was told."""

@@ -265,7 +265,7 @@ def test(words, port, console, osdp):
     def write(line):
         report.adds(line)
         record.write(line)
-    console.note("show cards, press keys and switch inputs during the test" + ("" if Player.is_at_terminal() else ": nobody is at a terminal, so nothing waits for them"))
+    console.note("show cards, press keys and switch inputs during the test" + ("" if Player.is_at_terminal() else ": it doesn't wait for them"))
     player = Player(port, console, address, may, write, "sum" if words.get("--sum") else "crc", bool(words.get("--go-on")), report.tells)
     player.goes()
     is_cut_off = bool(console.stops) or not port.is_there or player.is_silent

@@ -1,14 +1,21 @@
 """When a turn of a panel or of a reader began, and whether the program stood still: it was stopped, nobody
 read what it prints, or the computer slept.
 
-What a turn reads, and each packet that it makes, is as old as the moment at which the turn began. That moment
-is taken after the wait, and before anything is read."""
+What a turn reads is as old as the moment at which the turn began. That moment is taken after the wait, and
+before anything is read."""
 import time
 
 CLOCK = getattr(time, "CLOCK_BOOTTIME", time.CLOCK_MONOTONIC)  # it goes on while the computer sleeps
+START = time.clock_gettime(CLOCK)
 LATE = 5000  # how late the program may be in milliseconds, where its words don't say otherwise
 LONGEST = 1.0  # how long a wait is at most, in seconds
 AGAIN = "it came while the program stood still; type it again"
+
+
+def moment(seconds=None):
+    """Milliseconds since the start, by a clock that never goes backwards, and goes on while the computer
+    sleeps: a card of before its sleep is an old one. Of now, where no other moment of that clock is said."""
+    return int(((time.clock_gettime(CLOCK) if seconds is None else seconds) - START) * 1000)
 
 
 class Turns:
@@ -33,7 +40,7 @@ class Turns:
 
 
 class Timed:
-    """What a panel and a reader know of time."""
+    """What a reader knows of time."""
 
     def __init__(self, clock):
         self.clock, self.late, self.now = clock, LATE, clock()
@@ -43,7 +50,7 @@ class Timed:
         self.now = self.clock() if now is None else now
 
     def is_late(self):
-        """Whether the turn began too long ago: a packet of it isn't written any more, and no order of it is
+        """Whether the turn began too long ago: an answer of it isn't written any more, and no order of it is
         done."""
         return self.clock() - self.now > self.late
 

@@ -12,6 +12,7 @@ HEAD = """osdp-port: one command at the port of an OSDP line
 
 usage: osdp-port [OPTION].. PORT RATE COMMAND
        osdp-port page             where one adapter is plugged in; its page does the rest
+       osdp-port --config FILE serve   a line as a service, by a broker of MQTT
 
   monitor                what happens on the line, and which end breaks the rules
   show                   each packet, without POLL and ACK
@@ -23,6 +24,7 @@ usage: osdp-port [OPTION].. PORT RATE COMMAND
   test script FILE       a script of one's own, with what it expects
   trace FILE             writes down all that goes over the line
   page                   all of this in a browser: find, set up, try and watch devices
+  serve                  a panel as a service: orders and events by a broker of MQTT
 
 PORT is a name such as /dev/ttyUSB0, or rfc2217://HOST:PORT or socket://HOST:PORT.
 RATE is in bits for a second; 9600 is where most devices begin.
@@ -46,6 +48,7 @@ COMMANDS = {
     "test": "rules that a device or a panel keeps, or a script",
     "trace": "writes down all that goes over the line",
     "page": "all of this in a browser: find, set up, try and watch devices",
+    "serve": "a panel as a service: orders and events by a broker of MQTT",
 }
 TESTS = {
     "device": "which rules the device at this address keeps",
@@ -57,7 +60,7 @@ TESTS = {
 @dataclass(frozen=True)
 class Option:
     """An option: what follows it, none where nothing does; of which commands it is; the span of its number;
-    and whether a file follows it."""
+    whether a file follows it; and whether `never` may follow in the place of a number."""
 
     name: str
     value: str | None
@@ -65,8 +68,11 @@ class Option:
     text: str
     span: tuple[int, int] | None = None
     is_file: bool = False
+    is_never: bool = False
 
     def reads(self, word):
+        if self.is_never and word == "never":
+            return None
         return number(word, self.name, *self.span) if self.span else word
 
     def row(self, indent=25):
@@ -83,7 +89,7 @@ class Option:
 
 
 RUNS, JUDGED = ("panel", "reader"), ("test device", "test panel")
-ALL = ("monitor", "show", *RUNS, "find", *JUDGED, "test script", "trace", "page")
+ALL = ("monitor", "show", *RUNS, "find", *JUDGED, "test script", "trace", "page", "serve")
 OPTIONS = (
     Option("--all", None, ("monitor", "show", *RUNS), "POLL and ACK too; with panel and reader each packet"),
     Option("--address", "N", ("monitor", "show"), "of monitor and show: this device alone", (0, 126)),
@@ -93,14 +99,29 @@ OPTIONS = (
     Option(
         "--keep", "FILE", RUNS, "of panel and reader: the store, which has where devices are", is_file=True
     ),
-    Option("--new", None, RUNS, "with --keep: makes that store, where there is none"),
+    Option(
+        "--new",
+        None,
+        (*RUNS, "serve"),
+        "with --keep: makes that store, where there is none; of serve: the same, and ends",
+    ),
+    Option("--config", "FILE", ("serve",), "of serve: the configuration, in TOML", is_file=True),
+    Option("--check", None, ("serve",), "of serve: says what is wrong with the configuration, and ends"),
+    Option(
+        "--until",
+        "MS",
+        ("panel",),
+        "of panel: how long an order may go out after it was typed, or never too late: 5000",
+        (100, 3600000),
+        is_never=True,
+    ),
     Option(
         "--late",
         "MS",
-        RUNS,
+        ("reader",),
         (
-            "of panel and reader: a packet later than this isn't written, and what came while it stood still"
-            " so long is dropped: 5000"
+            "of reader: an answer later than this isn't written, and what came while it stood still so long"
+            " is dropped: 5000"
         ),
         (100, 60000),
     ),
@@ -135,6 +156,7 @@ OPTIONS = (
     Option("--osdp", "PATH", ALL, "the program osdp, where it isn't found", is_file=True),
 )
 BY_NAME = {option.name: option for option in OPTIONS}
+IN_SCRIPTS = ("--may", "--sum")  # options that a script has as lines of its own
 HELP = HEAD + "\n" + "\n".join([*(option.row() for option in OPTIONS), "  --help, --version"]) + "\n" + TAIL
 
 
@@ -269,7 +291,9 @@ def only_port():
 
 
 def with_port(words):
-    """The words; of a page that names no port, with one before them."""
+    """The words; of a page that names no port, and of a service, with one before them."""
+    if words[:1] == ["serve"]:
+        return ["config", "9600", *words]
     if words[:1] != ["page"]:
         return words
     return ["demo" if "--demo" in words else only_port(), "9600", *words]
@@ -302,7 +326,9 @@ class Words:
         of_test = f"test {self.given.test}" if self.command == "test" else self.command
         if extra:
             self.refuses(extra[0], of_test)
-        if self.get("--new") and not self.get("--keep"):
+        if self.command == "serve" and not self.get("--config"):
+            bad("serve: say its configuration by --config FILE")
+        if self.get("--new") and not self.get("--keep") and self.command != "serve":
             bad("--new makes a store: give --keep FILE too")
         for option in ("--size", "--osdpcap"):
             if self.command != "trace" and self.get(option) and not self.get("--trace"):
@@ -314,7 +340,8 @@ class Words:
         """Why a word that no parser has taken is wrong."""
         name = word.partition("=")[0]
         if name in BY_NAME:
-            bad(f"{name} is no option of {command}")
+            says = ": a line of the script says it" if command == "test script" and name in IN_SCRIPTS else ""
+            bad(f"{name} is no option of {command}{says}")
         bad(f"no option: {word}" if word.startswith("-") else f"{word}: nothing more stands there")
 
     def own_words(self):

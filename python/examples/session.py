@@ -12,29 +12,33 @@ except ImportError as error:
     sys.exit(str(error))
 
 
-def exchange(panel, device, now):
-    """What the panel has to say goes to the device, and what that says goes back. The commands that the
-    device is to do."""
-    orders = []
-    for answer in device.hear(panel.tick(now), now):
+def panel_turn(panel, heard, now):
+    """The panel hears what has come, and tells its reports. What it has to say."""
+    panel.hear(heard, now)
+    for report in panel.reports():
+        print(f"{report.kind.name}: {report.command} {report.reply}")
+    return panel.write(now) if panel.tick(now) else b""
+
+
+def device_turn(device, heard, now):
+    """The device hears what has come, and does what is ordered. What it has to say."""
+    said = b""
+    for answer in device.hear(heard, now):
         if answer.order is osdp.Order.ONCE:
-            orders.append(str(answer.command))
-        panel.hear(answer.data, now)
-    return orders
+            print("done:", answer.command)
+        said += answer.data
+    return said
 
 
 def main():
     with osdp.Panel() as panel, osdp.Device(5, vendor=b"SIM", serial=1) as device:
         device.set_outputs(bytes(2))
-        door = panel.add(5)
+        door, heard = panel.add(5), b""
         panel.begin(door, 0)
-        panel.submit(door, "OUT 0:5:30")
+        panel.submit(door, "OUT 0:5:30", until=5000)
         device.event("KEYPAD 0 31")
         for now in range(0, 1000, 50):
-            for order in exchange(panel, device, now):
-                print("done:", order)
-            for report in panel.reports():
-                print(f"{report.kind.name}: {report.command} {report.reply}")
+            heard = device_turn(device, panel_turn(panel, heard, now), now)
 
 
 if __name__ == "__main__":

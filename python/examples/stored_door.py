@@ -1,18 +1,18 @@
 """A panel's only door, of which a store has all: where it is, what it is, its orders and its events. A turn is one transaction: `ends_turn` stores what has happened, and then
-tells it. What was told for sure is noted with the next transaction; so what was told last before the program ended is told once more at its next start, after `again:`."""
-from collections import deque
+tells it. What was told for sure is noted with the next transaction; so what was told last before the program ended is told once more at its next start, after `again:`.
 
+Orders have the numbers of the panel, which go on where the store ends. The question after the state has one too, and isn't stored, since it may be asked twice."""
 import osdp
 from lines import tell
+from moments import moment
 from store import moment as date
 
 NAME = 5  # the address at which the door was first: the store names it so
 CARDS = (bytes.fromhex("12345640"), bytes.fromhex("65432180"))
 STRIKE = "OUT 0:5:30"  # output 0, on for three seconds
-ASK = "OSTAT"  # asks for the state of the outputs, and may be done twice: so it isn't stored
+ASK = "OSTAT"  # asks for the state of the outputs
 PAUSE = 1000  # from a session that was lost to the next one, in milliseconds
 COMSET, NAK, COM = 0x6E, 0x41, 0x54
-POLLS = (0x60, 0x61)  # packets that are no orders
 
 
 def may_enter(card):
@@ -31,14 +31,14 @@ def place_of(message):
 
 
 class Door:
-    """The panel with its door."""
+    """The panel with its door. An order lasts so many milliseconds."""
 
-    def __init__(self, store, port, rate):
-        self.store, self.port, self.said = store, port, []
+    def __init__(self, store, port, rate, lasts):
+        self.store, self.port, self.lasts, self.said = store, port, lasts, []
         self.places, self.identity = store.devices().get(NAME, ([(NAME, rate)], None))  # the first place is where it was tried last
         self.panel = osdp.Panel()
-        self.entry, self.begins = self.panel.add(self.places[0][0]), 0
-        self.given = deque()  # what the panel has: orders by their numbers, none for each question, and when each was given
+        self.entry, self.begins = self.panel.add(self.places[0][0], store.next_order(NAME)), 0
+        self.asked = None  # the number of the question after the state, while the panel has one
         self.is_left = False  # whether nothing is sent to the device, so that its session ends
         self.is_new = True  # since the start no event was reported
         self.other = None  # another device than the door, and where it answered
@@ -86,19 +86,20 @@ class Door:
         self.store.ends(NAME, number, state, answer)
         self.said.append(f"{told(state, answer)} {number} {self.text(number)}")
 
-    def order(self, text):
-        """Gives an order, which is stored with the turn. Whether the panel has taken it."""
-        number = self.store.gives(NAME, text, date() + self.port.turns.late)
+    def order(self, text, until):
+        """Gives an order that may go out until a moment, and stores it with the turn. Whether the panel has taken it."""
+        number = self.panel.next_number(self.entry)
+        self.store.gives(NAME, number, text, date() + until - moment())
         try:
-            self.panel.submit(self.entry, text)
+            self.panel.submit(self.entry, text, until)
         except osdp.OsdpError as error:
-            self.ends(number, "refused", str(error))
+            self.store.forgets(NAME, number)
+            self.said.append(f"refused ({error}) {text}")
             return False
-        self.given.append((number, self.port.turns.now))
         self.said.append(f"order {number} {text}")
         return True
 
-    def comset(self, text):
+    def comset(self, text, until):
         """Gives a COMSET. Where it leads is stored with it, before it goes out. Whether it was taken."""
         try:
             place = tuple(map(int, text.split()[1:]))
@@ -106,45 +107,46 @@ class Door:
             return False
         if len(place) != 2 or len(self.places) > 1 or self.begins is not None or self.is_left or not self.port.can_have(place[1]):
             return False
-        if self.order(text):
+        if self.order(text, until):
             self.places.append(place)
             self.keep()
         return True
 
-    def take_line(self, line):
+    def take_line(self, line, until):
+        """Does what a line says, if that goes out by a moment."""
         name = line.split(" ")[0]
-        if name in ("", ASK) or (name == "COMSET" and not self.comset(line)):
+        if name in ("", ASK) or (name == "COMSET" and not self.comset(line, until)):
             self.said.append("refused line")
         elif name != "COMSET":
-            self.order(line)
+            self.order(line, until)
 
     def ask(self):
         """Asks for the state of the outputs, before anybody gives an order in doubt again."""
-        if self.doubts and all(number is not None for number, _ in self.given):
+        if self.doubts and self.asked is None:
             try:
-                self.panel.submit(self.entry, ASK)
-                self.given.append((None, self.port.turns.now))
+                self.asked = self.panel.submit(self.entry, ASK)
             except osdp.OsdpError:
                 pass  # as many orders wait as may: the next session asks
 
     # reports
 
-    def ended(self, state, answer=None):
-        """The first thing that the panel has is over: an order, or the question after the state."""
-        number, _ = self.given.popleft()
-        if number is None and answer is not None:
+    def ended(self, number, state, answer=None):
+        """An order is over, or the question after the state."""
+        if number != self.asked:
+            self.doubt(number) if state == "doubt" else self.ends(number, state, answer)
+            return
+        self.asked = None
+        if answer is not None:
             self.said.append(f"state {answer}")
             self.is_heard = True
-        elif number is not None:
-            self.doubt(number) if state == "doubt" else self.ends(number, state, answer)
 
     def settled(self, report):
-        self.ended("settled", str(report.reply))
+        self.ended(report.number, "settled", str(report.reply))
         if report.command.code == COMSET:
             self.stands(self.places[0]) if report.reply.code == NAK else self.leaves()  # after another answer it is at either place
 
     def moved(self, report, now):
-        self.ended("settled", str(report.reply))
+        self.ended(report.number, "settled", str(report.reply))
         address, rate = place_of(report.reply)
         if not self.port.can_have(rate):
             self.said.append(f"no rate {rate}")
@@ -153,17 +155,22 @@ class Door:
         self.closes(now, 0)
 
     def lost(self, report, now):
-        if report.command is not None:
-            self.ended("doubt")
+        if report.number is not None:
+            self.ended(report.number, "doubt")
         self.closes(now, PAUSE)
 
     def closes(self, now, pause):
-        """A session has ended. Orders of long ago open no door: those that wait are taken back."""
-        while command := self.panel.withdraw(self.entry):
-            self.ended("back")
-            if command.code == COMSET:
-                self.stands(self.places[0])
+        """A session has ended. The orders that wait are taken back: the door may be elsewhere by the next one."""
+        next_number = self.panel.next_number(self.entry)
+        for number in range(next_number - self.panel.waiting(self.entry), next_number):
+            self.back(number, self.panel.withdraw(self.entry))
         self.begins, self.is_left = now + pause, False
+
+    def back(self, number, command):
+        """An order was never sent, and never will be. A COMSET leads nowhere then."""
+        self.ended(number, "back")
+        if command.code == COMSET:
+            self.stands(self.places[0])
 
     def stands(self, place):
         """The door is here, and nowhere else."""
@@ -186,23 +193,22 @@ class Door:
 
     def event(self, report):
         """Stores an event, and opens the door for a card. One that may have been reported before makes no second order: the panel has marked it, or it is the
-        first one since this program has started, and the last one that is stored."""
+        first one since this program has started, and the last one that is stored. The order goes out in time for its card, or not at all."""
         text = str(report.reply)
         is_again = report.maybe_again or (self.is_new and text == self.store.last_event(NAME))
         self.is_new = False
         self.store.reports(NAME, text, is_again)
         self.said.append(f"{'maybe again' if is_again else 'event'} {text}")
         card = report.reply.card()
-        if card and (self.is_left or self.port.turns.is_late()):
-            self.said.append("too old: the door stays closed")
-        elif card and may_enter(card) and not is_again:
-            self.order(STRIKE)
+        if card and may_enter(card) and not is_again and not self.is_left:
+            self.order(STRIKE, report.since + self.lasts)
 
     def unread(self, report):
         self.said.append(f"unread code {report.code:02X}")
-        if report.command:  # none where a POLL was answered so
-            self.ended("doubt")
-            self.leaves() if report.command.code == COMSET else self.ask()
+        if report.number is not None:  # none where a POLL was answered so
+            self.ended(report.number, "doubt")
+        if report.command and report.command.code == COMSET:
+            self.leaves()
         else:
             self.ask()
 
@@ -220,13 +226,15 @@ class Door:
                 self.moved(report, now)
             elif report.kind is osdp.Kind.LOST:
                 self.lost(report, now)
+            elif report.kind is osdp.Kind.EXPIRED:
+                self.back(report.number, report.command)
             else:
                 self.said.append(f"{report.kind.name.lower()} {report.reply or ''}".strip())
 
     # sessions and packets
 
     def leaves(self):
-        """An order, or a card, of before would open the door now. So the session is left until it is lost: what isn't written the line has lost."""
+        """Nothing more is said to the device, until its session is lost: there is no call for it. What isn't written the line has lost."""
         self.is_left = self.is_left or self.begins is None
 
     def begin(self, now):
@@ -244,10 +252,10 @@ class Door:
         """The moment at which something is to be done; none where nothing is."""
         return min((each for each in (self.panel.next_deadline(), self.begins) if each is not None), default=None)
 
-    def write(self, burst):
-        """Writes a packet, but not to a door that is left, and no order that was given too long ago: then its session is let end."""
-        is_order = burst and burst[5] not in POLLS and self.given
-        if is_order and self.port.turns.is_old(self.given[0][1]):
-            self.leaves()
+    def write(self):
+        """Writes the packet of the tick, at the moment that it is now, but not to a door that is left: where the disk took long an order may be too late."""
+        now = moment()
+        self.panel.set_moment(now)
+        burst = self.panel.write(now)
         if not self.is_left:
             self.port.write(burst)

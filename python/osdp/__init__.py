@@ -11,12 +11,16 @@ ValueError.
 
     panel = osdp.Panel()
     door = panel.add(5)
-    panel.begin(door, now)
-    panel.submit(door, "OUT 0:5:30")
-    panel.hear(port.read(), now)
-    for report in panel.reports():
-        print(report.kind.name, report.command, report.reply)
-    port.write(panel.tick(now))
+    panel.begin(door, clock())
+    panel.submit(door, "OUT 0:5:30", until=clock() + 5000)
+    while True:
+        wait_for_bytes(port, panel.next_deadline())
+        now = clock()
+        panel.hear(port.read_all_that_is_there(), now)
+        for report in panel.reports():
+            print(report.kind.name, report.number, report.command, report.reply)
+        if panel.tick(now):
+            port.write(panel.write(clock()))
 """
 from ._library import VERSION, OsdpError, Status, library_version
 from .device import Answer, Device, Expired, Order, Said

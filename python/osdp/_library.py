@@ -41,6 +41,7 @@ class Status(enum.IntEnum):
     NO_ENTRY = 24
     PANEL_OUT_OF_RANGE = 25
     ADDRESS_OUT_OF_RANGE = 26
+    NUMBERS_USED_UP = 27
     COMMANDS_FULL = 33
     POLL_SUBMITTED = 34
     NOT_CLOSED = 35
@@ -175,8 +176,12 @@ class ReportStruct(ctypes.Structure):
 
     _fields_ = [
         ("entry", c_size_t),
+        ("number", c_uint64),
+        ("since", c_uint64),
         ("kind", c_uint32),
         ("detail", c_uint32),
+        ("numbered", c_uint32),
+        ("too_late", c_uint32),
         ("command", MessageStruct),
         ("reply", MessageStruct),
     ]
@@ -243,7 +248,7 @@ PANEL, DEVICE, MONITOR, MESSAGE, ANSWER = (
     POINTER(MessageStruct),
     POINTER(AnswerStruct),
 )
-SIZE, NUMBER = POINTER(c_size_t), POINTER(c_uint32)
+SIZE, NUMBER, LONG = POINTER(c_size_t), POINTER(c_uint32), POINTER(c_uint64)
 # what each function takes; each gives a status, but for those that give nothing
 TAKES: dict[str, Tuple[Any, ...]] = {
     "osdp_command_text_nonnull": (c_uint8, c_char_p, c_size_t, c_char_p, c_size_t, SIZE),
@@ -253,15 +258,17 @@ TAKES: dict[str, Tuple[Any, ...]] = {
     "osdp_panel_new": (PANEL, POINTER(PanelConfigStruct)),
     "osdp_panel_new_with_room": (PANEL, POINTER(PanelConfigStruct), c_size_t),
     "osdp_panel_free": (PANEL,),
-    "osdp_panel_add": (PANEL, c_uint32, SIZE),
+    "osdp_panel_add": (PANEL, c_uint32, c_uint64, SIZE),
+    "osdp_panel_next_number": (PANEL, c_size_t, LONG),
     "osdp_panel_begin": (PANEL, c_size_t, c_uint64),
-    "osdp_panel_submit_nonnull": (PANEL, c_size_t, c_uint8, c_char_p, c_size_t),
-    "osdp_panel_submit_text_nonnull": (PANEL, c_size_t, c_char_p, c_size_t),
+    "osdp_panel_submit_nonnull": (PANEL, c_size_t, c_uint8, c_char_p, c_size_t, c_uint64, LONG),
+    "osdp_panel_submit_text_nonnull": (PANEL, c_size_t, c_char_p, c_size_t, c_uint64, LONG),
     "osdp_panel_withdraw": (PANEL, c_size_t, MESSAGE),
     "osdp_panel_retarget": (PANEL, c_size_t, c_uint32),
     "osdp_panel_bytes_nonnull": (PANEL, c_char_p, c_size_t, c_uint64),
     "osdp_panel_silence": (PANEL, c_uint64),
-    "osdp_panel_tick": (PANEL, c_uint64, POINTER(BurstStruct)),
+    "osdp_panel_tick": (PANEL, c_uint64, NUMBER),
+    "osdp_panel_write": (PANEL, c_uint64, POINTER(BurstStruct)),
     "osdp_panel_set_moment": (PANEL, c_uint64),
     "osdp_panel_next_deadline": (PANEL, POINTER(MomentStruct)),
     "osdp_panel_address": (PANEL, c_size_t, NUMBER),

@@ -70,9 +70,7 @@ fn run(mut port: Port) -> Done {
                 _ => tell("refused line")?,
             }
         }
-        take_turn(&mut device, &came.bytes, now, |answer| {
-            obey(answer, &mut port, now)
-        })?;
+        take_turn(&mut device, &came, |answer| obey(answer, &mut port, now))?;
         port.starts_anew(&mut device, start)?;
     }
 }

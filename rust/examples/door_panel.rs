@@ -27,21 +27,20 @@ fn may_enter(card: &Card) -> bool {
 type Done = Result<(), Box<dyn std::error::Error>>;
 
 /// Takes what the panel reports, and does what is to be done about it.
-fn take_reports(panel: &mut Panel, door: &mut Door, now: Moment) -> Done {
-    while let Some((_, report)) = panel.next_report() {
-        tell(format_args!("{report:?}"))?;
-        door.heed(&report, now)?;
+fn take_reports(panel: &mut Panel, door: &mut Door, port: &Port, now: Moment) -> Done {
+    while let Some(told) = panel.next_report() {
+        tell(format_args!("{:?}", told.report))?;
+        door.heed(&told.report, now)?;
         // a card that may have been told before makes no second order
-        if let Report::Event {
-            event: Reply::Raw(card),
-            maybe_again: false,
-        } = report
+        if let (Report::Event(Reply::Raw(card)), Some(since)) = (&told.report, told.since)
             && door.may_order
-            && may_enter(&card)
+            && !told.maybe_again
+            && may_enter(card)
         {
-            match panel.submit(door.entry, &Command::out(&[STRIKE])?) {
+            let until = since + port.late(); // the door opens in time for its card, or not at all
+            match panel.submit(door.entry, &Command::out(&[STRIKE])?, until) {
                 Err(Error::Full) => {} // as many orders wait as may: the door stays closed
-                done => done?,
+                done => drop(done?),
             }
         }
     }
@@ -55,21 +54,16 @@ fn run(mut port: Port) -> Done {
         let until = door.site.wait_until(&panel, port.now() + TURN);
         let came = port.wait(until)?;
         let now = came.now;
-        if came.stood_still {
-            door.leave(); // a card, or an order, of before would open the door now
-        }
         panel.set_moment(now); // also where the program was stopped for more than a day
         panel.on_bytes(&came.bytes, now)?;
-        take_reports(&mut panel, &mut door, now)?;
+        take_reports(&mut panel, &mut door, &port, now)?;
         for line in &came.lines {
-            if !door.take_line(&mut panel, line)? {
+            if !door.take_line(&mut panel, line, came.typed + port.late())? {
                 tell(format_args!("refused line {line}"))?;
             }
         }
         door.begin(&mut panel, &mut port, now)?;
-        let unsent = panel.tick(now)?;
-        unsent.send(|burst| door.write(&mut port, burst, now))?;
-        take_reports(&mut panel, &mut door, now)?;
+        door.write(&mut port, panel.tick(now)?)?;
     }
 }
 

@@ -103,9 +103,7 @@ fn run(mut port: Port) -> Done {
                 tell("refused line")?;
             }
         }
-        take_turn(&mut device, &came.bytes, now, |answer| {
-            reader.obey(answer, now)
-        })?;
+        take_turn(&mut device, &came, |answer| reader.obey(answer, now))?;
         let start = |address| start(address, contact);
         reader.port.starts_anew(&mut device, start)?;
     }

@@ -19,6 +19,8 @@ const CARDS_ARE_TOLD: Capability = Capability {
     count: 0,
 };
 const CARDS: usize = 20;
+/// The door opens so long after its card at most.
+const OLD: Duration = Duration::from_secs(5);
 
 /// The line from the device to the panel. It loses one answer in seven.
 #[derive(Default)]
@@ -68,7 +70,7 @@ fn tell(line: &str) {
 
 fn main() -> Result<(), Error> {
     let mut panel = Panel::new(&PanelConfig::default())?;
-    let door = panel.add(5)?;
+    let door = panel.add(5, 0)?;
     let mut device = Device::new(&DeviceConfig {
         clock_limit: Duration::from_secs(60),
         id: PdId {
@@ -90,34 +92,29 @@ fn main() -> Result<(), Error> {
     let mut now = Moment::from_millis(0);
     panel.begin(door, now)?;
 
-    let (mut cards, mut settled, mut opened) = (0, 0, 0);
+    let (mut cards, mut settled, mut opened) = (0, 0, 0); // orders have numbers from 0 on
     let mut line = Line::default();
     for _ in 0..1000 {
         panel.on_bytes(&std::mem::take(&mut line.bytes), now)?;
-        while let Some((entry, report)) = panel.next_report() {
-            match report {
-                Report::Opened(id) => tell(&format!("opened by {id:?}")),
-                Report::Event {
-                    event: told,
-                    maybe_again: false,
-                } => {
-                    assert_eq!(told, event);
+        while let Some(told) = panel.next_report() {
+            match (told.report, told.since) {
+                (Report::Opened(id), _) => tell(&format!("opened by {id:?}")),
+                (Report::Event(reply), Some(since)) if !told.maybe_again => {
+                    assert_eq!(reply, event);
                     cards += 1;
-                    panel.submit(entry, &Command::out(&[STRIKE])?)?;
+                    panel.submit(told.entry, &Command::out(&[STRIKE])?, since + OLD)?;
                 }
-                Report::Settled(command, reply) => {
+                (Report::Settled(command, reply), _) => {
                     assert_eq!(command.to_string(), "OUT 0:5:30");
-                    assert_eq!(reply, Reply::Ack);
+                    assert_eq!((reply, told.number), (Reply::Ack, Some(settled)));
                     settled += 1;
                 }
                 other => panic!("{other:?}"),
             }
         }
-        let sent = panel.tick(now)?.send(|burst| {
-            opened += device_hears(&mut device, burst, now, &mut line)?;
-            Ok::<(), Error>(())
-        })?;
-        if !sent && line.bytes.is_empty() {
+        let burst = panel.tick(now)?.write(now)?;
+        opened += device_hears(&mut device, &burst, now, &mut line)?;
+        if burst.is_empty() && line.bytes.is_empty() {
             now = panel
                 .next_deadline()
                 .unwrap_or(now + Duration::from_millis(1))
@@ -128,13 +125,13 @@ fn main() -> Result<(), Error> {
         "{cards} cards, {opened} times opened, {settled} settled, {} answers",
         line.answers
     ));
-    assert_eq!((cards, opened, settled), (CARDS, CARDS, CARDS));
+    assert_eq!((cards, opened, settled), (CARDS, CARDS, CARDS as u64));
 
     assert_eq!(
-        panel.submit_text(door, "OPEN THE DOOR"),
+        panel.submit_text(door, "OPEN THE DOOR", Moment::NEVER),
         Err(Error::BadText)
     );
-    assert_eq!(panel.add(5), Err(Error::AddressTaken));
+    assert_eq!(panel.add(5, 0), Err(Error::AddressTaken));
     assert_eq!(device.submit_event(&Reply::Ack), Err(Error::NoEvent));
     assert_eq!(device.waiting(), 0);
     Ok(())

@@ -6,14 +6,15 @@
 //! also by a loss of power: when it starts again it tells which orders are in doubt, makes no second order for a card, and acts on no order twice. `again:` stands before
 //! what it tells then, and may have told already. Another device in the door's place gets no order. Where STORE can't be written the program ends, and nothing of that turn
 //! has happened.
+//!
+//! Orders have the numbers of the panel, which go on where the store ends. The question after the state has one too, and isn't stored.
 mod port;
 
-use osdp::{Card, Command, Error, Moment, Output, Panel, PanelConfig, Reply, Report, output};
+use osdp::{Card, Command, Moment, Output, Panel, PanelConfig, PanelReport, Reply, Report, output};
 use port::ledger::{End, Ledger};
 use port::stand::{Id, Place, Stand, id_of, read_stands, stand_of, write_stand};
 use port::store::Store;
 use port::{Keeps, Port, RATES, run_on_port};
-use std::collections::VecDeque;
 use std::io;
 use std::process::ExitCode;
 use std::time::Duration;
@@ -25,8 +26,6 @@ const TURN: Duration = Duration::from_millis(100);
 /// From a session that was lost to the next one.
 const PAUSE: Duration = Duration::from_secs(1);
 const COMSET: u8 = 0x6E;
-/// Packets that are no orders: POLL and ID.
-const POLLS: [u8; 2] = [0x60, 0x61];
 /// The door's strike, its output 0, on for three seconds.
 const STRIKE: Output = Output {
     output: 0,
@@ -60,7 +59,8 @@ fn out_of(text: &str) -> Option<Command> {
     .ok()
 }
 
-type Done = Result<(), Box<dyn std::error::Error>>;
+type Failure = Box<dyn std::error::Error>;
+type Done = Result<(), Failure>;
 
 struct Door {
     panel: Panel,
@@ -68,8 +68,8 @@ struct Door {
     ledger: Ledger,
     stands: Vec<Stand>,
     at: usize,
-    /// What the panel has, the first one first: orders by their numbers, none for each question, and when each was given.
-    given: VecDeque<(Option<i64>, Moment)>,
+    /// The number of the question after the state, while the panel has one. It may be asked twice, so it isn't stored.
+    asked: Option<u64>,
     /// When the next session begins; none while one goes on.
     begins: Option<Moment>,
     /// Whether nothing is sent to the device, so that its session ends.
@@ -81,21 +81,22 @@ struct Door {
 }
 
 impl Door {
-    fn open(port: &Port) -> Result<Door, Box<dyn std::error::Error>> {
+    fn open(port: &Port) -> Result<Door, Failure> {
         let options = &port.options;
         let path = options.kept.as_deref().unwrap_or_default();
         let mut store = Store::open(path, "panel", options.is_new)?;
         let mut stands = read_stands(&store)?;
         let at = stand_of(&mut stands, NAME, port.rate)?;
         write_stand(&mut store, &stands[at])?;
+        let ledger = Ledger::open(store, NAME, options.retain)?;
         let mut panel = Panel::new(&PanelConfig::default())?;
         Ok(Door {
-            entry: panel.add(stands[at].place().0)?,
+            entry: panel.add(stands[at].place().0, ledger.next_number()?)?,
             panel,
-            ledger: Ledger::open(store, NAME, options.retain)?,
+            ledger,
             stands,
             at,
-            given: VecDeque::new(),
+            asked: None,
             begins: Some(port.now()),
             is_left: false,
             is_new: true,
@@ -103,7 +104,7 @@ impl Door {
         })
     }
 
-    /// An order, or a card, of before would open the door now. So the session is left until it is lost: what isn't written the line has lost.
+    /// Nothing more is said to the device, until its session is lost: there is no call for it. What isn't written the line has lost.
     fn leave(&mut self) {
         self.is_left = self.is_left || self.begins.is_none();
     }
@@ -118,25 +119,23 @@ impl Door {
         self.keep()
     }
 
-    /// Gives an order, which is stored with the turn. Whether the panel has taken it.
-    fn order(&mut self, command: &Command, port: &Port, now: Moment) -> io::Result<bool> {
-        let text = command.to_string();
-        let number = self.ledger.gives(&text, port.late())?;
-        let taken = self.panel.submit(self.entry, command);
-        match taken {
-            Ok(()) => {
-                self.given.push_back((Some(number), now));
-                self.ledger.say(format!("order {number} {text}"));
+    /// Gives an order that may go out until a moment, and stores it with the turn. Whether the panel has taken it.
+    fn order(&mut self, command: &Command, until: Moment, port: &Port) -> Result<bool, Failure> {
+        let (number, text) = (self.panel.next_number(self.entry)?, command.to_string());
+        self.ledger.gives(number, &text, until.since(port.now()))?;
+        let taken = self.panel.submit(self.entry, command, until);
+        match &taken {
+            Ok(number) => self.ledger.say(format!("order {number} {text}")),
+            Err(why) => {
+                self.ledger.refused(number)?;
+                self.ledger.say(format!("refused ({why}) {text}"));
             }
-            Err(error) => self
-                .ledger
-                .ends(number, End::Refused, Some(error.to_string()))?,
         }
         Ok(taken.is_ok())
     }
 
     /// Gives a COMSET. Where it leads is stored with it, before it goes out. Whether it was one that may be given.
-    fn move_to(&mut self, place: Place, port: &Port, now: Moment) -> io::Result<bool> {
+    fn move_to(&mut self, place: Place, port: &Port, until: Moment) -> Result<bool, Failure> {
         let mine = &self.stands[self.at];
         let is_taken = self
             .stands
@@ -149,70 +148,76 @@ impl Door {
         if !may || !RATES.contains(&place.1) {
             return Ok(false);
         }
-        if self.order(&comset, port, now)? {
+        if self.order(&comset, until, port)? {
             self.stands[self.at].places.insert(0, place);
             self.keep()?;
         }
         Ok(true)
     }
 
-    /// Does what a line says. Whether it says an order.
-    fn take_line(&mut self, line: &str, port: &Port, now: Moment) -> io::Result<bool> {
+    /// Does what a line says, if that goes out by a moment. Whether it says an order.
+    fn take_line(&mut self, line: &str, until: Moment, port: &Port) -> Result<bool, Failure> {
         match line.split_whitespace().collect::<Vec<_>>()[..] {
             ["COMSET", address, rate] => match (address.parse(), rate.parse()) {
-                (Ok(address), Ok(rate)) => self.move_to((address, rate), port, now),
+                (Ok(address), Ok(rate)) => self.move_to((address, rate), port, until),
                 _ => Ok(false),
             },
             ["OUT", record] => match out_of(record) {
-                Some(command) => self.order(&command, port, now).map(|_| true),
+                Some(command) => self.order(&command, until, port).map(|_| true),
                 None => Ok(false),
             },
             _ => Ok(false),
         }
     }
 
-    /// The first thing that the panel has is over: an order, or the question after the state. An order without an end is in doubt.
-    fn ended(&mut self, end: Option<End>, answer: Option<&Reply>) -> io::Result<()> {
+    /// An order is over, or the question after the state. An order without an end is in doubt.
+    fn ended(&mut self, number: u64, end: Option<End>, answer: Option<&Reply>) -> io::Result<()> {
         let answer = answer.map(text_of);
-        match (self.given.pop_front(), end) {
-            (Some((Some(number), _)), Some(end)) => self.ledger.ends(number, end, answer),
-            (Some((Some(number), _)), None) => self.ledger.doubt(number),
-            (Some((None, _)), _) => {
-                if let Some(answer) = answer {
-                    self.ledger.say(format!("state {answer}"));
-                    self.ledger.heard_all();
-                }
-                Ok(())
+        if self.asked == Some(number) {
+            self.asked = None;
+            if let Some(answer) = answer {
+                self.ledger.say(format!("state {answer}"));
+                self.ledger.heard_all();
             }
-            (None, _) => Ok(()),
+            return Ok(());
+        }
+        match end {
+            Some(end) => self.ledger.ends(number, end, answer),
+            None => self.ledger.doubt(number),
         }
     }
 
-    /// A session has ended. Orders of long ago open no door: those that wait are taken back.
+    /// A session has ended. Those orders that wait are taken back: the door may be elsewhere by the next one.
     fn closes(&mut self, begins: Moment) -> Done {
-        while let Some(command) = self.panel.withdraw(self.entry)? {
-            self.ended(Some(End::Back), None)?;
-            if command.code() == COMSET {
-                self.stands_at(self.stands[self.at].place())?;
-            }
+        let waits = self.panel.waiting(self.entry)? as u64;
+        let next = self.panel.next_number(self.entry)?;
+        for number in next - waits..next {
+            let command = self.panel.withdraw(self.entry)?;
+            self.back(number, command.as_ref())?;
         }
         (self.begins, self.is_left) = (Some(begins), false);
         Ok(())
     }
 
-    /// Asks for the state of the outputs, before anybody gives an order in doubt again. It may be asked twice, so it isn't stored.
-    fn ask(&mut self, now: Moment) {
-        let asks = self.given.iter().any(|(number, _)| number.is_none());
-        if self.ledger.has_doubts() && !asks {
-            let asked = self.panel.submit(self.entry, &Command::output_status());
-            if asked.is_ok() {
-                self.given.push_back((None, now));
-            }
+    /// An order was never sent, and never will be. A COMSET leads nowhere then.
+    fn back(&mut self, number: u64, command: Option<&Command>) -> io::Result<()> {
+        if command.is_some_and(|command| command.code() == COMSET) {
+            self.stands_at(self.stands[self.at].place())?;
+        }
+        self.ended(number, Some(End::Back), None)
+    }
+
+    /// Asks for the state of the outputs, before anybody gives an order in doubt again.
+    fn ask(&mut self) {
+        if self.ledger.has_doubts() && self.asked.is_none() {
+            let asks = Command::output_status();
+            let asked = self.panel.submit(self.entry, &asks, Moment::NEVER);
+            self.asked = asked.ok();
         }
     }
 
     /// Another device than the door gets no order: its session is let end, and the door is looked for at its next place.
-    fn opened(&mut self, id: Id, now: Moment) -> io::Result<()> {
+    fn opened(&mut self, id: Id) -> io::Result<()> {
         let mine = &mut self.stands[self.at];
         let place = mine.place();
         if mine.id.as_ref().is_none_or(|known| *known == id) {
@@ -220,7 +225,7 @@ impl Door {
                 .say(format!("opened {} {} {}", id.0, id.1, id.2));
             (mine.id, self.other) = (Some(id), None);
             self.stands_at(place)?;
-            self.ask(now);
+            self.ask();
             return Ok(());
         }
         let other = Some((id, place));
@@ -233,71 +238,74 @@ impl Door {
     }
 
     /// Stores an event, and opens the door for a card. One that may have been reported before makes no second order: the panel has marked it, or it is the first
-    /// one since this program has started, and the last one that is stored.
-    fn event(&mut self, event: &Reply, maybe_again: bool, port: &Port, now: Moment) -> Done {
+    /// one since this program has started, and the last one that is stored. The order goes out in time for its card, or not at all.
+    fn event(&mut self, event: &Reply, told: &PanelReport, port: &Port, since: Moment) -> Done {
         let text = text_of(event);
         let is_last = self.is_new && self.ledger.last_event()?.as_deref() == Some(&text);
-        let is_again = maybe_again || is_last;
+        let is_again = told.maybe_again || is_last;
         self.is_new = false;
         self.ledger.reports(&text, is_again)?;
         let how = if is_again { "maybe again" } else { "event" };
         self.ledger.say(format!("{how} {text}"));
         match event {
             Reply::Raw(card) if may_enter(card) && !is_again && !self.is_left => {
-                self.order(&Command::out(&[STRIKE])?, port, now)?;
+                self.order(&Command::out(&[STRIKE])?, since + port.late(), port)?;
             }
             _ => {}
         }
         Ok(())
     }
 
-    fn take_report(&mut self, report: &Report, port: &Port, now: Moment) -> Done {
-        match report {
-            Report::Opened(id) => self.opened(id_of(id), now)?,
-            Report::Settled(command, reply) => {
-                self.ended(Some(End::Settled), Some(reply))?;
+    /// The answer to an order, or to a POLL, can't be read.
+    fn unread(&mut self, number: Option<u64>, command: Option<&Command>, code: u8) -> Done {
+        self.ledger.say(format!("unread code {code:02X}"));
+        if let Some(number) = number {
+            self.ended(number, None, None)?;
+        }
+        match command.map(Command::code) {
+            Some(COMSET) => self.leave(),
+            Some(_) | None => self.ask(),
+        }
+        Ok(())
+    }
+
+    fn take_report(&mut self, told: &PanelReport, port: &Port, now: Moment) -> Done {
+        match (&told.report, told.number, told.since) {
+            (Report::Opened(id), ..) => self.opened(id_of(id))?,
+            (Report::Settled(command, reply), Some(number), _) => {
+                self.ended(number, Some(End::Settled), Some(reply))?;
                 match (command.code(), reply) {
                     (COMSET, Reply::Nak(_)) => self.stands_at(self.stands[self.at].place())?,
                     (COMSET, _) => self.leave(), // it is at either place
                     _ => {}
                 }
             }
-            Report::Moved(_, reply) => {
-                self.ended(Some(End::Settled), Some(reply))?;
+            (Report::Moved(_, reply), Some(number), _) => {
+                self.ended(number, Some(End::Settled), Some(reply))?;
                 if let Reply::Com(address, rate) = reply {
                     self.stands_at((*address, *rate))?;
                 }
                 self.closes(now)?;
             }
-            Report::Event { event, maybe_again } => self.event(event, *maybe_again, port, now)?,
-            Report::Lost(_, command) => {
-                if command.is_some() {
-                    self.ended(None, None)?;
+            (Report::Event(event), _, Some(since)) => self.event(event, told, port, since)?,
+            (Report::Lost(..), number, _) => {
+                if let Some(number) = number {
+                    self.ended(number, None, None)?;
                 }
                 self.closes(now + PAUSE)?;
             }
-            Report::Unread { code, command } => {
-                self.ledger.say(format!("unread code {code:02X}"));
-                match command.as_ref().map(Command::code) {
-                    Some(COMSET) => {
-                        self.ended(None, None)?;
-                        self.leave();
-                    }
-                    Some(_) => {
-                        self.ended(None, None)?;
-                        self.ask(now);
-                    }
-                    None => self.ask(now),
-                }
+            (Report::Unread { code, command }, number, _) => {
+                self.unread(number, command.as_ref(), *code)?;
             }
+            (Report::Expired(command), Some(number), _) => self.back(number, Some(command))?,
             _ => {}
         }
         Ok(())
     }
 
     fn take_reports(&mut self, port: &Port, now: Moment) -> Done {
-        while let Some((_, report)) = self.panel.next_report() {
-            self.take_report(&report, port, now)?;
+        while let Some(told) = self.panel.next_report() {
+            self.take_report(&told, port, now)?;
         }
         Ok(())
     }
@@ -328,14 +336,6 @@ impl Door {
             .unwrap_or(latest)
             .min(latest)
     }
-
-    /// Since when a packet may not be late: an order, since it was given.
-    fn since(&self, burst: &[u8], now: Moment) -> Moment {
-        match self.given.front() {
-            Some((_, since)) if burst.get(5).is_some_and(|code| !POLLS.contains(code)) => *since,
-            _ => now,
-        }
-    }
 }
 
 /// Waits for what comes next, and does all of it. What of it is to last is on the disk before the packet goes out.
@@ -343,30 +343,19 @@ fn turn(door: &mut Door, port: &mut Port) -> Done {
     let came = port.wait(door.due(port))?;
     let now = came.now;
     door.ledger.begins_turn()?;
-    if came.stood_still {
-        door.leave(); // a card, or an order, of before would open the door now
-    }
     door.panel.set_moment(now); // also where the program was stopped for more than a day
     door.panel.on_bytes(&came.bytes, now)?;
     door.take_reports(port, now)?;
     for line in &came.lines {
-        if came.stood_still {
-            door.ledger.say(format!("too old {line}"));
-        } else if !door.take_line(line, port, now)? {
+        if !door.take_line(line, came.typed + port.late(), port)? {
             door.ledger.say(format!("refused line {line}"));
         }
     }
     door.begin(port, now)?;
-    let mut burst = Vec::new();
     let unsent = door.panel.tick(now)?;
-    unsent.send(|bytes| {
-        burst.extend_from_slice(bytes);
-        Ok::<(), Error>(())
-    })?;
-    door.take_reports(port, now)?;
     door.ledger.ends_turn()?; // before the packet goes out: by that the device may forget an event
-    if !door.is_left && !port.write(&burst, door.since(&burst, now))? {
-        door.leave(); // it is late: an order would go out late
+    if !door.is_left {
+        port.write_unsent(unsent)?; // by its own moment: where the disk took long an order may be too late
     }
     Ok(())
 }

@@ -48,7 +48,7 @@ impl Doors {
         let mut panel = Panel::new(&PanelConfig::default())?;
         let mut site = Site::new(&panel, now);
         for address in (1..).take(DOORS) {
-            let door = panel.add(address)?;
+            let door = panel.add(address, 0)?;
             site.wants(door, &Command::color(color::RED)?)?;
             site.wants(door, &Command::sound(false))?;
         }
@@ -56,12 +56,13 @@ impl Doors {
         Ok(Doors { panel, site, held })
     }
 
-    /// The strike, output 0, and a green LED, both for a time: orders, which a reader that comes back doesn't get again.
-    fn unlock(&mut self, door: EntryNumber) -> Done {
+    /// The strike, output 0, and a green LED, both for a time: orders, which a reader that comes back doesn't get again. They go out until a moment.
+    fn unlock(&mut self, door: EntryNumber, until: Moment) -> Done {
         let strike = Command::output_for(0, UNLOCK)?;
-        if self.site.order(&mut self.panel, door, &strike)? {
+        let given = self.site.order(&mut self.panel, door, &strike, until)?;
+        if given.is_some() {
             let green = Command::color_for(color::GREEN, UNLOCK)?;
-            self.site.order(&mut self.panel, door, &green)?;
+            self.site.order(&mut self.panel, door, &green, until)?;
         }
         Ok(())
     }
@@ -78,29 +79,32 @@ impl Doors {
         Ok(self.site.wants(door, &Command::sound(false))?)
     }
 
-    fn take_reports(&mut self, now: Moment) -> Done {
-        while let Some((door, report, change)) = self.site.next_report(&mut self.panel, now) {
+    fn take_reports(&mut self, port: &Port, now: Moment) -> Done {
+        while let Some((told, change)) = self.site.next_report(&mut self.panel, now) {
+            let door = told.entry;
+            let number = door.index() + 1;
             if let Some(presence) = change {
-                tell(format_args!("door {} is {presence:?}", door.index() + 1))?;
+                tell(format_args!("door {number} is {presence:?}"))?;
             }
             if let Some(Presence::Online(_)) = change {
                 let asks = Command::input_status();
-                self.site.order(&mut self.panel, door, &asks)?;
+                self.site
+                    .order(&mut self.panel, door, &asks, Moment::NEVER)?;
             }
-            match report {
-                // a card that may have been told before unlocks nothing again
-                Report::Event {
-                    event: Reply::Raw(card),
-                    maybe_again: false,
-                } if may_enter(&card, door.index()) => self.unlock(door)?,
-                Report::Event {
-                    event: Reply::Inputs(states),
-                    ..
+            match (told.report, told.since) {
+                // a card that may have been told before unlocks nothing again, and one of long ago nothing at all
+                (Report::Event(Reply::Raw(card)), Some(since))
+                    if !told.maybe_again && may_enter(&card, door.index()) =>
+                {
+                    self.unlock(door, since + port.late())?
                 }
-                | Report::Settled(_, Reply::Inputs(states)) => {
-                    self.take_contact(door, &states, now)?
-                }
-                Report::Lost(_, order) => take_back(&mut self.panel, door, order)?,
+                (
+                    Report::Event(Reply::Inputs(states))
+                    | Report::Settled(_, Reply::Inputs(states)),
+                    _,
+                ) => self.take_contact(door, &states, now)?,
+                (Report::Expired(order), _) => tell(format_args!("expired {number} {order}"))?,
+                (Report::Lost(_, order), _) => take_back(&mut self.panel, door, order)?,
                 _ => {}
             }
         }
@@ -129,20 +133,12 @@ fn run(mut port: Port) -> Done {
         for line in &came.lines {
             tell(format_args!("refused line {line}"))?;
         }
-        doors.site.on_bytes(&mut doors.panel, &came.bytes, now)?;
-        if came.stood_still {
-            doors.site.leave(); // a card, or an order, of before would open a door now
-        }
-        doors.take_reports(now)?;
+        doors.panel.set_moment(now); // also where the program was stopped for more than a day
+        doors.panel.on_bytes(&came.bytes, now)?;
+        doors.take_reports(&port, now)?;
         doors.watch(now)?;
         doors.site.act(&mut doors.panel, now)?;
-        let mut is_written = true;
-        let unsent = doors.site.tick(&mut doors.panel, now)?;
-        unsent.send(|burst| port.write(burst, now).map(|it| is_written = it))?;
-        if !is_written {
-            doors.site.leave(); // it is late: an order would go out late
-        }
-        doors.take_reports(now)?;
+        port.write_unsent(doors.panel.tick(now)?)?;
     }
 }
 

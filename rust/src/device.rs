@@ -2,7 +2,7 @@
 
 use crate::error::{Error, check};
 use crate::fields::{Capabilities, Capability, NakReason, PdId, Product, Reply};
-use crate::message::{Command, Unsent, no_burst, no_message};
+use crate::message::{Burst, Command, no_burst, no_message};
 use crate::numbered::numbered;
 use crate::panel::{limit, milliseconds};
 use crate::sys;
@@ -118,7 +118,7 @@ pub struct Answer<'a> {
     /// What a COMSET that was accepted has set. Keep it in memory that stays before the burst is sent, since a device that restarts is to be where it was.
     pub moved: Option<Moved>,
     order: Option<Order>,
-    unsent: Unsent<'a>,
+    burst: Burst<'a>,
 }
 
 impl Answer<'_> {
@@ -135,7 +135,9 @@ impl Answer<'_> {
     /// Those of `write`. Then it tells no order. The device has taken the command all the same: a repeat of an `Order::Once` gets the same answer and is no
     /// order, so no later call tells it. A program that goes on after such an error acts on `order`.
     pub fn send<E>(self, write: impl FnOnce(&[u8]) -> Result<(), E>) -> Result<Option<Order>, E> {
-        self.unsent.send(write)?;
+        if !self.burst.is_empty() {
+            write(&self.burst)?;
+        }
         Ok(self.order)
     }
 }
@@ -172,7 +174,7 @@ fn answer_of<'a>(raw: &sys::osdp_answer) -> Option<Answer<'a>> {
             sys::OSDP_ORDER_PENDING => command.map(Order::Pending),
             _ => None,
         },
-        unsent: Unsent::from_sys(&raw.burst),
+        burst: Burst::from_sys(&raw.burst),
     })
 }
 

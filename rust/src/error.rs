@@ -33,6 +33,8 @@ pub enum Error {
     AddressOutOfRange,
     /// As many commands or events wait as there is room for, or there is no room for the bytes of this one.
     Full,
+    /// The device has used up its numbers: the next one would be 2^64 - 1, which no order has.
+    NumbersUsedUp,
     /// The command is a POLL, which the panel sends by itself.
     PollSubmitted,
     /// The session of the device has begun.
@@ -64,6 +66,7 @@ impl fmt::Display for Error {
             Error::NoEntry => "there is no such device",
             Error::OutOfRange => "an address or a setting is out of its range",
             Error::AddressOutOfRange => "no device has an address above 126",
+            Error::NumbersUsedUp => "no number is left for an order of the device",
             Error::Full => "there is no room for one more",
             Error::PollSubmitted => "a POLL can't be submitted",
             Error::NotClosed => "the session isn't closed",
@@ -97,6 +100,7 @@ pub(crate) fn check(status: sys::osdp_status) -> Result<(), Error> {
         | sys::OSDP_DEVICE_OUT_OF_RANGE
         | sys::OSDP_MONITOR_OUT_OF_RANGE => Error::OutOfRange,
         sys::OSDP_ADDRESS_OUT_OF_RANGE => Error::AddressOutOfRange,
+        sys::OSDP_NUMBERS_USED_UP => Error::NumbersUsedUp,
         sys::OSDP_COMMANDS_FULL | sys::OSDP_EVENTS_FULL => Error::Full,
         sys::OSDP_POLL_SUBMITTED => Error::PollSubmitted,
         sys::OSDP_NOT_CLOSED => Error::NotClosed,

@@ -12,22 +12,25 @@
 //! # fn write(_: &[u8]) -> Result<(), Error> { Ok(()) }
 //! # fn now() -> Moment { Moment::from_millis(0) }
 //! const TURN: Duration = Duration::from_millis(100); // how long it waits at most
-//! const LATE: Duration = Duration::from_secs(5); // how late a burst may be
+//! const LATE: Duration = Duration::from_secs(5); // so long after its card a door opens at most
 //!
 //! fn may_enter(card: &Card) -> bool {
 //!     (card.bits(), card.bytes()) == (26, &[0x12, 0x34, 0x56, 0x40])
 //! }
 //!
 //! /// The strike is on for three seconds. Where the door is offline, or as many orders wait as may, it stays closed.
-//! fn open(panel: &mut Panel, site: &Site<1>, door: EntryNumber) -> Result<(), Error> {
-//!     site.order(panel, door, &Command::output_for(0, 30)?)?;
+//! fn open(panel: &mut Panel, site: &Site<1>, door: EntryNumber, until: Moment) -> Result<(), Error> {
+//!     site.order(panel, door, &Command::output_for(0, 30)?, until)?;
 //!     Ok(())
 //! }
 //!
-//! fn take_reports(panel: &mut Panel, site: &mut Site<1>, now: Moment) -> Result<(), Error> {
-//!     while let Some((door, report, _)) = site.next_report(panel, now) {
-//!         match report {
-//!             Report::Event { event: Reply::Raw(card), maybe_again: false } if may_enter(&card) => open(panel, site, door)?,
+//! fn take_reports(panel: &mut Panel, site: &mut Site<1>, moment: Moment) -> Result<(), Error> {
+//!     while let Some((told, _)) = site.next_report(panel, moment) {
+//!         match (told.report, told.since) {
+//!             // a card that may have been told before opens nothing again, and one of long ago nothing at all
+//!             (Report::Event(Reply::Raw(card)), Some(since)) if !told.maybe_again && may_enter(&card) => {
+//!                 open(panel, site, told.entry, since + LATE)?;
+//!             }
 //!             _ => {}
 //!         }
 //!     }
@@ -36,7 +39,7 @@
 //!
 //! # fn main() -> Result<(), Box<dyn core::error::Error>> {
 //! let mut panel = Panel::new(&PanelConfig::default())?;
-//! let door = panel.add(5)?;
+//! let door = panel.add(5, 0)?; // its first order has the number 0
 //! let mut site = Site::new(&panel, now()); // begins the session, and again a second after it was lost
 //! site.wants(door, &Command::color(color::RED)?)?; // also when the door comes back
 //! let mut bytes = [0; 256];
@@ -44,18 +47,12 @@
 //!     wait(site.wait_until(&panel, now() + TURN)); // for bytes, at most until that moment
 //!     let moment = now();
 //!     let count = read_all(&mut bytes); // all that is there
-//!     site.on_bytes(&mut panel, &bytes[..count], moment)?; // where the program stood still they are left, and sessions are let end
+//!     panel.set_moment(moment); // also where the program was stopped for more than a day
+//!     panel.on_bytes(&bytes[..count], moment)?;
 //!     take_reports(&mut panel, &mut site, moment)?;
 //!     site.act(&mut panel, moment)?;
-//!     let mut is_late = false;
-//!     site.tick(&mut panel, moment)?.send(|burst| {
-//!         is_late = now().since(moment) > LATE; // an order would go out late
-//!         if is_late { Ok(()) } else { write(burst) }
-//!     })?;
-//!     if is_late {
-//!         site.leave();
-//!     }
-//!     take_reports(&mut panel, &mut site, moment)?;
+//!     let unsent = panel.tick(moment)?;
+//!     write(&unsent.write(now())?)?; // whole; nothing where none is to go out, or where its order is too old by now
 //! }
 //! # }
 //! ```
@@ -82,9 +79,11 @@ pub mod named;
 mod numbered;
 mod panel;
 mod reply_data;
+mod report;
 mod site;
 mod sys;
 mod time;
+mod unsent;
 
 pub use command_fields::{CommandFields, Leds, Outputs};
 pub use device::{Answer, Device, DeviceAnswer, DeviceConfig, Expired, Moved, Order, Said, Step};
@@ -93,9 +92,11 @@ pub use fields::{
     Buzzer, Bytes, Capabilities, Capability, Card, Led, LedState, Nak, NakReason, Output, PdId,
     Product, Reply, Text,
 };
-pub use message::{Command, RawReply, Unsent};
+pub use message::{Burst, Command, RawReply};
 pub use monitor::{Monitor, Prints};
 pub use named::{card, color, function, led, output, reader, state, text, tone};
-pub use panel::{Check, EntryNumber, LostCause, Panel, PanelConfig, Report};
+pub use panel::{Check, EntryNumber, Panel, PanelConfig};
+pub use report::{LostCause, PanelReport, Report};
 pub use site::{Presence, Site, SiteError};
 pub use time::Moment;
+pub use unsent::Unsent;

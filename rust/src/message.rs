@@ -265,12 +265,20 @@ impl Command {
     }
 }
 
-/// The bytes of one packet, to be written to the line at once and in their order. It derefs to them.
-struct Burst(sys::osdp_burst);
+/// The bytes of one packet, to be written to the line whole and at once. It derefs to them, and is empty where nothing is to go out. It borrows the panel or the
+/// device: until it is written, no other call of that machine compiles.
+#[must_use = "it goes out before the next call: write it to the line, whole and at once"]
+pub struct Burst<'a> {
+    bytes: sys::osdp_burst,
+    end: PhantomData<&'a mut ()>,
+}
 
-impl Burst {
-    fn from_sys(burst: &sys::osdp_burst) -> Option<Burst> {
-        (burst.length != 0).then_some(Burst(*burst))
+impl Burst<'_> {
+    pub(crate) fn from_sys<'a>(bytes: &sys::osdp_burst) -> Burst<'a> {
+        Burst {
+            bytes: *bytes,
+            end: PhantomData,
+        }
     }
 }
 
@@ -281,46 +289,15 @@ pub(crate) fn no_burst() -> sys::osdp_burst {
     }
 }
 
-impl core::ops::Deref for Burst {
+impl core::ops::Deref for Burst<'_> {
     type Target = [u8];
 
     fn deref(&self) -> &[u8] {
-        &self.0.bytes[..self.0.length as usize]
+        &self.bytes.bytes[..self.bytes.length as usize]
     }
 }
 
-/// What a call has to send: a burst, or nothing. It borrows the panel or the device: while it is to be sent, no other call of that machine compiles. The
-/// compiler warns where it isn't used at all. It doesn't warn where it is dropped by `let _ =`, by `..` in a pattern, or by an early return: then the burst
-/// is lost.
-#[must_use = "its burst goes out before the next call: `send` hands it over"]
-#[derive(Debug)]
-pub struct Unsent<'a> {
-    burst: Option<Burst>,
-    end: PhantomData<&'a mut ()>,
-}
-
-impl Unsent<'_> {
-    pub(crate) fn from_sys<'a>(burst: &sys::osdp_burst) -> Unsent<'a> {
-        Unsent {
-            burst: Burst::from_sys(burst),
-            end: PhantomData,
-        }
-    }
-
-    /// Hands the burst, where there is one, to `write`, which writes it to the line, whole and at once. Tells whether there was one.
-    ///
-    /// # Errors
-    ///
-    /// Those of `write`. Then the burst is gone, as one that is lost on the line: the panel sends its packet again after `reply_wait`, or loses the session.
-    pub fn send<E>(self, write: impl FnOnce(&[u8]) -> Result<(), E>) -> Result<bool, E> {
-        match self.burst {
-            Some(burst) => write(&burst).map(|()| true),
-            None => Ok(false),
-        }
-    }
-}
-
-impl fmt::Debug for Burst {
+impl fmt::Debug for Burst<'_> {
     fn fmt(&self, f: &mut fmt::Formatter<'_>) -> fmt::Result {
         fmt::Debug::fmt(&**self, f)
     }

@@ -1,11 +1,11 @@
 //! The panel's end of a line.
 
 use crate::error::{Error, check};
-use crate::fields::{PdId, Reply};
-use crate::message::{Command, Unsent, no_burst, no_message};
-use crate::numbered::numbered;
+use crate::message::{Burst, Command, no_burst, no_message};
+use crate::report::{PanelReport, no_report};
 use crate::sys;
 use crate::time::Moment;
+use crate::unsent::Unsent;
 use core::cell::UnsafeCell;
 use core::mem::MaybeUninit;
 use core::ptr::null_mut;
@@ -19,7 +19,7 @@ pub use crate::sys::Check;
 pub struct PanelConfig {
     /// Which check the packets of the panel end with.
     pub check: Check,
-    /// How long an answer is waited for, from the `Panel::tick` that gave the packet.
+    /// How long an answer is waited for, from the `Panel::tick` that had the packet sent.
     pub reply_wait: Duration,
     /// How long after an answer the next POLL of that device is due.
     pub poll_interval: Duration,
@@ -110,81 +110,14 @@ impl EntryNumber {
 /// How many panels were made: each has a number of its own, until there were four billion.
 static PANELS: AtomicU32 = AtomicU32::new(0);
 
-numbered! {
-    /// Why a session was lost.
-    pub enum LostCause {
-        /// The packet was sent as often as `sends` says, and no reply came that answers it.
-        NoReply = OSDP_LOST_NO_REPLY,
-        /// The device answered BUSY more often than `busy_limit` allows.
-        TooBusy = OSDP_LOST_TOO_BUSY,
-        /// The device answered NAK 4: it didn't expect the sequence number. Mostly it has restarted.
-        NumberRefused = OSDP_LOST_NUMBER_REFUSED,
-    }
-}
-
-/// What a panel tells of a device. `docs/GUIDE.md` says what a panel's program does with each.
-#[derive(Clone, Debug, PartialEq, Eq)]
-#[non_exhaustive]
-#[allow(clippy::large_enum_variant)]
-pub enum Report {
-    /// The session is open, and the device said what it is.
-    Opened(PdId),
-    /// The command was answered by the reply. Look at it: it may be a NAK, and then nothing was done.
-    Settled(Command, Reply),
-    /// The command, a COMSET, was answered by the reply, a `Reply::Com` with the same address. The device is at its new address, and the session has ended:
-    /// begin it again. The device's rate is that of the reply, which may be another than was ordered.
-    Moved(Command, Reply),
-    /// The device told an event.
-    Event {
-        /// The reply that carries the event.
-        event: Reply,
-        /// Whether it may have been reported before: it is the first of its session, and equal in all its bytes to the event of that device that was
-        /// reported last. A lost session may lose the answer that carries an event, and the device sends the event again then. Make no second order of
-        /// such an event within a time that you set. A panel that is made anew has forgotten what it reported, and marks no first event.
-        maybe_again: bool,
-    },
-    /// A POLL was answered by a reply that is neither an ACK nor an event, such as a NAK.
-    Answered(Reply),
-    /// The answer to a command, or to a POLL where there is no command, can't be read. What became of the command is unknown, and it isn't sent again. The
-    /// session goes on. An address that a COMSET reserved stays reserved until `Panel::retarget`.
-    Unread {
-        /// The command; none where a POLL was answered.
-        command: Option<Command>,
-        /// The code of the answer.
-        code: u8,
-    },
-    /// The session has ended, for this reason. What became of the command, if there is one, is unknown, and it isn't sent again. If it is a COMSET, its address
-    /// stays reserved until `Panel::retarget`. The commands that wait go out in the next session.
-    Lost(LostCause, Option<Command>),
-}
-
-fn report_of(panel: u32, raw: &sys::osdp_report) -> Option<(EntryNumber, Report)> {
-    let command = Command::from_sys(&raw.command);
-    let reply = Reply::from_sys(&raw.reply);
-    let report = match raw.kind {
-        sys::OSDP_REPORT_OPENED => match reply? {
-            Reply::PdId(id) => Report::Opened(id),
-            _ => return None,
-        },
-        sys::OSDP_REPORT_SETTLED => Report::Settled(command?, reply?),
-        sys::OSDP_REPORT_MOVED => Report::Moved(command?, reply?),
-        sys::OSDP_REPORT_EVENT => Report::Event {
-            event: reply?,
-            maybe_again: raw.detail == sys::OSDP_EVENT_MAYBE_AGAIN,
-        },
-        sys::OSDP_REPORT_ANSWERED => Report::Answered(reply?),
-        sys::OSDP_REPORT_UNREAD => Report::Unread {
-            command,
-            code: raw.detail as u8,
-        },
-        sys::OSDP_REPORT_LOST => Report::Lost(LostCause::of(raw.detail)?, command),
-        _ => return None,
-    };
-    let index = raw.entry;
-    Some((EntryNumber { panel, index }, report))
-}
-
-/// The panel's end of a line with up to sixteen devices. It reads and writes nothing: its program hands bytes and moments in, and writes what `tick` gives.
+/// The panel's end of a line with up to sixteen devices. It reads and writes nothing: its program hands bytes and moments in, and writes what a tick has it send.
+///
+/// A turn of a program waits for bytes, at most until `next_deadline`, takes the moment, reads all that is there, and hands it to `on_bytes`. Then it takes all
+/// reports, and calls `tick`. It takes the moment anew, and writes what `Unsent::write` gives at that, whole and at once. The moment is taken after the wait and
+/// before the read: so no byte is older than its moment says, also where the program stood still.
+///
+/// Each order has a number and a last moment. Once that has passed it isn't sent any more, however long the program stood still. Between any two orders of a
+/// device it is asked for its events: so orders that come as fast as they go keep no card waiting.
 ///
 /// With the feature `heap` it may be moved to another thread: its memory is that of the program's global allocator, which every thread may use. Without
 /// it the program's own heap may be one of a single thread, so there it stays on the thread that made it.
@@ -254,20 +187,34 @@ impl Panel {
         }
     }
 
-    /// Adds a device at an address, 0 to 126. Its session is closed. It takes memory. A device can't be taken away again.
+    /// Adds a device at an address, 0 to 126. Its session is closed. Its first order has the number `next_number`: 0 for a device that never had one, and after a
+    /// restart of the program the one that `next_number` told last. It takes memory. A device can't be taken away again.
     ///
     /// # Errors
     ///
     /// `TooManyDevices`: there are sixteen. `OutOfRange`: the address is above 126. `AddressTaken`: it is that of another device or reserved for one.
     /// `NoMemory`.
-    pub fn add(&mut self, address: u8) -> Result<EntryNumber, Error> {
-        let mut entry = 0;
+    pub fn add(&mut self, address: u8, next_number: u64) -> Result<EntryNumber, Error> {
+        let (address, mut index) = (address.into(), 0);
         // SAFETY: the handle is ours alone, and the entry is written.
-        check(unsafe { sys::osdp_panel_add(self.handle.get(), address.into(), &mut entry) })?;
+        check(unsafe { sys::osdp_panel_add(self.handle.get(), address, next_number, &mut index) })?;
         Ok(EntryNumber {
             panel: self.number,
-            index: entry,
+            index,
         })
+    }
+
+    /// The number that the next order of a device has. A program that stores its orders stores this number before it submits, and hands it to `add` after a
+    /// restart.
+    ///
+    /// # Errors
+    ///
+    /// `NoEntry`.
+    pub fn next_number(&self, entry: EntryNumber) -> Result<u64, Error> {
+        let (index, mut number) = (self.index(entry)?, 0);
+        // SAFETY: the handle is ours alone, and the number is one.
+        check(unsafe { sys::osdp_panel_next_number(self.handle.get(), index, &mut number) })?;
+        Ok(number)
     }
 
     /// Begins a session of a device. The device is left quiet for `quiet_wait`, and then the opening ID goes out when its turn comes. `Report::Opened` or
@@ -282,17 +229,25 @@ impl Panel {
         check(unsafe { sys::osdp_panel_begin(self.handle.get(), index, now.as_millis()) })
     }
 
-    /// Puts a command after those that wait for a device, whether or not its session has begun. Once it was sent a report says what becomes of it. It goes out
-    /// when its turn comes, also in a later session, however late: before, `withdraw` takes it back.
+    /// Puts an order after those that wait for a device, whether or not its session has begun, and tells its number. It may be sent until a moment, which counts
+    /// as well; `Moment::NEVER` is never too late. It waits for its turn, also in a later session, and it is gone where the program loses power before. Once it was
+    /// sent a report with its number says what becomes of it. Where its last moment passes while it waits, it is told as `Report::Expired` as soon as it is in
+    /// front, and not sent. Before, `withdraw` takes it back.
     ///
     /// # Errors
     ///
-    /// `NoEntry`. `PollSubmitted`: it is a POLL. `AddressOutOfRange`: it is a COMSET to an address above 126, where the device would be out of reach.
-    /// `AddressTaken`: it is a COMSET to an address of another device or reserved for one, or an address is reserved for this device already. `Full`.
-    pub fn submit(&mut self, entry: EntryNumber, command: &Command) -> Result<(), Error> {
-        let index = self.index(entry)?;
+    /// `NoEntry`. `NumbersUsedUp`: the next number would be 2^64 - 1. `PollSubmitted`: it is a POLL. `AddressOutOfRange`: it is a COMSET to an address above 126,
+    /// where the device would be out of reach. `AddressTaken`: it is a COMSET to an address of another device or reserved for one, or an address is reserved for
+    /// this device already. `Full`.
+    pub fn submit(
+        &mut self,
+        entry: EntryNumber,
+        command: &Command,
+        until: Moment,
+    ) -> Result<u64, Error> {
+        let (index, mut number) = (self.index(entry)?, 0);
         let (code, data) = (command.code(), command.data());
-        // SAFETY: the handle is ours alone, and the data have so many bytes.
+        // SAFETY: the handle is ours alone, the data have so many bytes, and the number is one.
         check(unsafe {
             sys::osdp_panel_submit_nonnull(
                 self.handle.get(),
@@ -300,8 +255,11 @@ impl Panel {
                 code,
                 data.as_ptr(),
                 data.len(),
+                until.as_millis(),
+                &mut number,
             )
-        })
+        })?;
+        Ok(number)
     }
 
     /// As `submit`, for the text of a command, such as `OUT 0:5:30`.
@@ -309,17 +267,25 @@ impl Panel {
     /// # Errors
     ///
     /// `BadText`: it is the text of no command. The others are those of `submit`.
-    pub fn submit_text(&mut self, entry: EntryNumber, text: &str) -> Result<(), Error> {
-        let index = self.index(entry)?;
-        // SAFETY: the handle is ours alone, and the text has so many bytes.
+    pub fn submit_text(
+        &mut self,
+        entry: EntryNumber,
+        text: &str,
+        until: Moment,
+    ) -> Result<u64, Error> {
+        let (index, mut number) = (self.index(entry)?, 0);
+        // SAFETY: the handle is ours alone, the text has so many bytes, and the number is one.
         check(unsafe {
             sys::osdp_panel_submit_text_nonnull(
                 self.handle.get(),
                 index,
                 text.as_ptr().cast(),
                 text.len(),
+                until.as_millis(),
+                &mut number,
             )
-        })
+        })?;
+        Ok(number)
     }
 
     /// Takes back the command that has waited longest for a device, also while a session goes on. It won't be sent, no report tells it, and an address that it
@@ -397,8 +363,8 @@ impl Panel {
         Ok(closed != 0)
     }
 
-    /// Hands in bytes that have come from the line, in any pieces. A call with no bytes moves the greatest moment seen, and changes nothing else. Take the
-    /// report that may wait after it (`next_report`).
+    /// Hands in bytes that a read of the port gave, in any pieces, and the moment, which was taken before the read. Call it in each turn, also where none have
+    /// come. Take all reports after it (`next_report`).
     ///
     /// # Errors
     ///
@@ -422,37 +388,48 @@ impl Panel {
         check(unsafe { sys::osdp_panel_silence(self.handle.get(), now.as_millis()) })
     }
 
-    /// Does what is due at a moment, and gives the burst that is to be sent, if there is one. While a report waits, there is none. A tick may also leave a
-    /// report, so take that one too.
+    /// Does what is due at a moment, and tells whether a burst is to go out. There is none in a turn whose bytes brought a report, and none while a report waits or
+    /// an order is late. A tick may also leave a report, which the next turn takes.
     ///
     /// ```no_run
     /// # use osdp::{Error, Moment, Panel};
+    /// # fn now() -> Moment { Moment::from_millis(0) }
     /// # fn write(_: &[u8]) -> Result<(), Error> { Ok(()) }
-    /// fn turn(panel: &mut Panel, now: Moment) -> Result<(), Error> {
-    ///     panel.tick(now)?.send(|burst| write(burst))?;
-    ///     Ok(())
+    /// fn turn(panel: &mut Panel, moment: Moment) -> Result<(), Error> {
+    ///     let unsent = panel.tick(moment)?;
+    ///     write(&unsent.write(now())?)
     /// }
     /// ```
     ///
-    /// The compiler warns of a burst that is forgotten, and no other call of the panel compiles before it is sent:
+    /// The compiler warns of a burst that is forgotten, before its bytes are taken and after that:
     ///
     /// ```compile_fail
     /// # #![deny(unused_must_use)]
     /// # use osdp::{Error, Moment, Panel};
-    /// fn forgets(panel: &mut Panel, now: Moment) -> Result<(), Error> {
-    ///     panel.tick(now)?;
+    /// fn forgets(panel: &mut Panel, moment: Moment) -> Result<(), Error> {
+    ///     panel.tick(moment)?;
     ///     Ok(())
     /// }
     /// ```
     ///
     /// ```compile_fail
+    /// # #![deny(unused_must_use)]
+    /// # use osdp::{Error, Moment, Panel};
+    /// fn forgets_its_bytes(panel: &mut Panel, moment: Moment) -> Result<(), Error> {
+    ///     panel.tick(moment)?.write(moment)?;
+    ///     Ok(())
+    /// }
+    /// ```
+    ///
+    /// No other call of the panel compiles before it is written:
+    ///
+    /// ```compile_fail
     /// # use osdp::{Error, Moment, Panel};
     /// # fn write(_: &[u8]) -> Result<(), Error> { Ok(()) }
-    /// fn is_late(panel: &mut Panel, now: Moment) -> Result<(), Error> {
-    ///     let unsent = panel.tick(now)?;
-    ///     panel.on_silence(now)?;
-    ///     unsent.send(|burst| write(burst))?;
-    ///     Ok(())
+    /// fn is_late(panel: &mut Panel, moment: Moment) -> Result<(), Error> {
+    ///     let unsent = panel.tick(moment)?;
+    ///     panel.on_silence(moment)?;
+    ///     write(&unsent.write(moment)?)
     /// }
     /// ```
     ///
@@ -460,15 +437,18 @@ impl Panel {
     ///
     /// `MomentTooFar`.
     pub fn tick(&mut self, now: Moment) -> Result<Unsent<'_>, Error> {
-        self.burst_at(now).map(|burst| Unsent::from_sys(&burst))
+        let mut sends = 0;
+        // SAFETY: the handle is ours alone, and the number is one.
+        check(unsafe { sys::osdp_panel_tick(self.handle.get(), now.as_millis(), &mut sends) })?;
+        Ok(Unsent::new(self, sends != 0))
     }
 
-    /// As `tick`: the burst that is to be sent, which is empty where there is none.
-    pub(crate) fn burst_at(&mut self, now: Moment) -> Result<sys::osdp_burst, Error> {
+    /// The bytes of the tick's burst that go out at a moment.
+    pub(crate) fn burst_at(&mut self, now: Moment) -> Result<Burst<'_>, Error> {
         let mut burst = no_burst();
         // SAFETY: the handle is ours alone, and the burst is one.
-        check(unsafe { sys::osdp_panel_tick(self.handle.get(), now.as_millis(), &mut burst) })?;
-        Ok(burst)
+        check(unsafe { sys::osdp_panel_write(self.handle.get(), now.as_millis(), &mut burst) })?;
+        Ok(Burst::from_sys(&burst))
     }
 
     /// Sets the greatest moment seen, however far it lies after the one before: for a host that slept, after `MomentTooFar`. One that lies before the greatest
@@ -478,9 +458,9 @@ impl Panel {
         let _ = unsafe { sys::osdp_panel_set_moment(self.handle.get(), now.as_millis()) };
     }
 
-    /// The moment at which `tick` is to be called next, if no other call comes before. A tick at that moment or later gives a burst, leaves a report or ends a
-    /// run of bytes, and an earlier tick does none of these. It may lie in the past: then tick at once. None while a report waits, and where no tick would do
-    /// anything.
+    /// The moment of the next turn, if no bytes come before. It may lie in the past: then take the turn at once. So it is where a report waits or an order is
+    /// late, and where bytes of the turn before brought a report, so that its tick is still to come. None where no turn would do anything before bytes come or the
+    /// program itself calls the panel.
     pub fn next_deadline(&self) -> Option<Moment> {
         let mut deadline = sys::osdp_moment {
             moment: 0,
@@ -491,19 +471,14 @@ impl Panel {
         (deadline.present != 0).then_some(Moment::from_millis(deadline.moment))
     }
 
-    /// Takes the report that waits, with the device of which it tells. At most one waits. Call it after `on_bytes`, `on_silence` and `tick`: while a report
-    /// waits, the panel sends nothing.
-    pub fn next_report(&mut self) -> Option<(EntryNumber, Report)> {
-        let mut report = sys::osdp_report {
-            entry: 0,
-            kind: sys::OSDP_REPORT_NONE,
-            detail: 0,
-            command: no_message(),
-            reply: no_message(),
-        };
+    /// Takes what is to be told: a report, or the first order whose last moment has passed while it waited. Call it after `on_bytes` until there is none: while
+    /// something is to be told, the panel sends nothing.
+    pub fn next_report(&mut self) -> Option<PanelReport> {
+        let mut report = no_report();
         // SAFETY: the handle is ours alone, and the report is one. It holds a machine, so the call isn't refused.
         let _ = unsafe { sys::osdp_panel_next_report(self.handle.get(), &mut report) };
-        report_of(self.number, &report)
+        let (panel, index) = (self.number, report.entry);
+        PanelReport::from_sys(EntryNumber { panel, index }, &report)
     }
 }
 

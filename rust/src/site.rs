@@ -3,9 +3,10 @@
 
 use crate::error::Error;
 use crate::fields::{Buzzer, Led, LedState, Output};
-use crate::message::{Command, Unsent};
+use crate::message::Command;
 use crate::named::{led, output, tone};
-use crate::panel::{EntryNumber, Panel, Report};
+use crate::panel::{EntryNumber, Panel};
+use crate::report::{PanelReport, Report};
 use crate::sys;
 use crate::time::Moment;
 use core::fmt;
@@ -16,9 +17,6 @@ const ROOM: usize = 16;
 
 /// From a session that has ended to the next one, where the program sets no other pause.
 const PAUSE: Duration = Duration::from_secs(1);
-
-/// How late a turn may come, where the program sets no other time.
-const LATE: Duration = Duration::from_secs(5);
 
 /// Why a site refuses to want something. A refused call has changed nothing.
 #[derive(Clone, Copy, Debug, PartialEq, Eq)]
@@ -157,16 +155,9 @@ struct Place {
     done: usize,
     presence: Presence,
     begins: Option<Moment>,
-    /// Whether its session is let end.
-    is_left: bool,
 }
 
 impl Place {
-    /// Whether its session is open, and goes on.
-    fn takes_orders(&self) -> bool {
-        self.presence.is_online() && !self.is_left
-    }
-
     /// A state is wanted, in place of the one of the same that was wanted before.
     fn wants(&mut self, state: State) -> Result<(), SiteError> {
         let is_same = |known: &State| known.subject() == state.subject();
@@ -181,11 +172,12 @@ impl Place {
         Ok(())
     }
 
-    /// What is wanted and not submitted yet goes to the panel, up to the first that it refuses.
+    /// What is wanted and not submitted yet goes to the panel, up to the first that it refuses. A state is never too late.
     fn refresh(&mut self, panel: &mut Panel, entry: EntryNumber) {
         for state in &self.wanted[self.done..self.count] {
-            match state.command().and_then(|it| panel.submit(entry, &it)) {
-                Ok(()) => self.done += 1,
+            let command = state.command();
+            match command.and_then(|it| panel.submit(entry, &it, Moment::NEVER)) {
+                Ok(_) => self.done += 1,
                 Err(_) => return,
             }
         }
@@ -202,7 +194,7 @@ impl Place {
             }
             self.begins = None;
         }
-        if self.takes_orders() {
+        if self.presence.is_online() {
             self.refresh(panel, entry);
         }
         Ok(())
@@ -212,15 +204,12 @@ impl Place {
 /// What a panel's program wants of its devices, and when their sessions begin. A site belongs to one panel, and `ENTRIES` is how many devices that panel has. A
 /// site leaves further devices alone. Where the panel has fewer, the site is due all the time, so that `wait_until` never waits.
 ///
-/// The program says once how an LED, an output, a buzzer or a text is to be. It waits for bytes, takes the moment, and then reads all that is there. It hands the
-/// bytes in by `Site::on_bytes`, hands on each report, and calls `act` and `Site::tick`. It takes the moment once more right before it writes: a burst that is late
-/// isn't written, and then it calls `leave`. A site takes no memory of the heap.
+/// The program says once how an LED, an output, a buzzer or a text is to be. In each turn it waits, takes the moment, reads all that is there, and hands it to its
+/// panel. Then it takes the reports by `Site::next_report`, and calls `act`. At last it calls `Panel::tick`, takes the moment anew, and writes the burst. A site
+/// takes no memory of the heap.
 pub struct Site<const ENTRIES: usize> {
     places: [Place; ENTRIES],
     pause: Duration,
-    late: Duration,
-    /// When the turn after the last one was due. None where there was none.
-    due: Option<Moment>,
     /// That of the panel.
     room: Option<usize>,
 }
@@ -236,13 +225,10 @@ impl<const ENTRIES: usize> Site<ENTRIES> {
             done: 0,
             presence: Presence::Offline(now),
             begins: Some(now),
-            is_left: false,
         };
         Site {
             places: [place; ENTRIES],
             pause: PAUSE,
-            late: LATE,
-            due: None,
             room: panel.room,
         }
     }
@@ -250,11 +236,6 @@ impl<const ENTRIES: usize> Site<ENTRIES> {
     /// The same site with another pause from a session that has ended to the next one.
     pub fn with_pause(self, pause: Duration) -> Site<ENTRIES> {
         Site { pause, ..self }
-    }
-
-    /// The same site with another time by which a turn may come too late: five seconds where no other one is set.
-    pub fn with_late(self, late: Duration) -> Site<ENTRIES> {
-        Site { late, ..self }
     }
 
     fn place(&self, entry: EntryNumber) -> Option<&Place> {
@@ -295,7 +276,6 @@ impl<const ENTRIES: usize> Site<ENTRIES> {
             }
             _ => return None,
         };
-        place.is_left = false;
         if place.presence.is_online() == presence.is_online() {
             return None;
         }
@@ -303,20 +283,20 @@ impl<const ENTRIES: usize> Site<ENTRIES> {
         Some(presence)
     }
 
-    /// Takes the report that waits, as `Panel::next_report` does, and heeds it. The third part is what `heed` tells.
+    /// Takes what is to be told, as `Panel::next_report` does, and heeds it. The second part is what `heed` tells.
     pub fn next_report(
         &mut self,
         panel: &mut Panel,
         now: Moment,
-    ) -> Option<(EntryNumber, Report, Option<Presence>)> {
-        let (entry, report) = panel.next_report()?;
-        let change = self.heed(entry, &report, now);
-        Some((entry, report, change))
+    ) -> Option<(PanelReport, Option<Presence>)> {
+        let told = panel.next_report()?;
+        let change = self.heed(told.entry, &told.report, now);
+        Some((told, change))
     }
 
-    /// Gives an order: a command that is submitted once. Tells whether the panel accepted it. It isn't submitted, and the call gives false, where the device is
-    /// offline or its session is let end, since the order would be stale once the device is online again. The call gives false too where the panel has no room for the order (`Full`),
-    /// and for a further device, which the site leaves alone.
+    /// Gives an order: a command that is submitted once, and may be sent until a moment. Tells its number. It isn't submitted, and there is no number, where the
+    /// device is offline: it may come back at any time. So it is too where the panel has no room for the order (`Full`), and for a further device, which the site
+    /// leaves alone.
     ///
     /// # Errors
     ///
@@ -326,67 +306,17 @@ impl<const ENTRIES: usize> Site<ENTRIES> {
         panel: &mut Panel,
         entry: EntryNumber,
         command: &Command,
-    ) -> Result<bool, Error> {
-        if !self.place(entry).is_some_and(Place::takes_orders) {
-            return Ok(false);
+        until: Moment,
+    ) -> Result<Option<u64>, Error> {
+        let presence = self.presence(entry);
+        if !presence.is_some_and(Presence::is_online) {
+            return Ok(None);
         }
-        match panel.submit(entry, command) {
-            Ok(()) => Ok(true),
-            Err(Error::Full) => Ok(false),
+        match panel.submit(entry, command, until) {
+            Ok(number) => Ok(Some(number)),
+            Err(Error::Full) => Ok(None),
             Err(error) => Err(error),
         }
-    }
-
-    /// Hands in bytes that were read after this moment, as `Panel::on_bytes` does. Where the moment lies further after the one at which this turn was due than a turn
-    /// may be late, the program stood still: its computer slept, or it was stopped, or what it did took so long. Then the bytes are left, as a line may lose them, since
-    /// a card among them may be of long ago, and each open session is let end (`leave`). Tells whether it was so. A moment that lies too far after the greatest one
-    /// seen is seen all the same (`Panel::set_moment`).
-    ///
-    /// # Errors
-    ///
-    /// None today.
-    pub fn on_bytes(
-        &mut self,
-        panel: &mut Panel,
-        bytes: &[u8],
-        now: Moment,
-    ) -> Result<bool, Error> {
-        let stood_still = self.due.is_some_and(|due| now.since(due) > self.late);
-        let heard = panel.on_bytes(if stood_still { &[] } else { bytes }, now);
-        if stood_still || heard == Err(Error::MomentTooFar) {
-            panel.set_moment(now);
-            self.leave();
-            return Ok(true);
-        }
-        heard.map(|()| false)
-    }
-
-    /// Lets each session end that is open, as there is no call for it: `Site::tick` gives no more bursts for its device, until it is lost. For a program that stood
-    /// still, or that has not written a burst since it was late. The panel would send an order of long ago again, and those that wait would go out late. The order that
-    /// was under way is told lost then, and those that wait are taken back before the next session begins.
-    pub fn leave(&mut self) {
-        for place in &mut self.places {
-            place.is_left = place.presence.is_online();
-        }
-    }
-
-    /// Does what is due at a moment, as `Panel::tick` does, but gives no burst for a device whose session is let end.
-    ///
-    /// # Errors
-    ///
-    /// `MomentTooFar`.
-    pub fn tick<'a>(&mut self, panel: &'a mut Panel, now: Moment) -> Result<Unsent<'a>, Error> {
-        let mut burst = panel.burst_at(now)?;
-        let due = [self.next_deadline(), panel.next_deadline()];
-        self.due = Some(due.into_iter().flatten().min().unwrap_or(now).max(now));
-        let mut places = panel.entries().zip(&self.places);
-        let is_left = places.any(|(entry, place)| {
-            place.is_left && panel.address(entry) == Ok(burst.bytes[1] & 0x7F)
-        });
-        if is_left {
-            burst.length = 0;
-        }
-        Ok(Unsent::from_sys(&burst))
     }
 
     /// The moment until which the program may wait for bytes: the earliest of when the site is due, when its panel is due, and `most`.

@@ -28,6 +28,7 @@ pub const OSDP_ADDRESS_TAKEN: u32 = 23;
 pub const OSDP_NO_ENTRY: u32 = 24;
 pub const OSDP_PANEL_OUT_OF_RANGE: u32 = 25;
 pub const OSDP_ADDRESS_OUT_OF_RANGE: u32 = 26;
+pub const OSDP_NUMBERS_USED_UP: u32 = 27;
 pub const OSDP_COMMANDS_FULL: u32 = 33;
 pub const OSDP_POLL_SUBMITTED: u32 = 34;
 pub const OSDP_NOT_CLOSED: u32 = 35;
@@ -145,6 +146,7 @@ pub const OSDP_REPORT_EVENT: u32 = 4;
 pub const OSDP_REPORT_ANSWERED: u32 = 5;
 pub const OSDP_REPORT_UNREAD: u32 = 6;
 pub const OSDP_REPORT_LOST: u32 = 7;
+pub const OSDP_REPORT_EXPIRED: u32 = 8;
 
 pub const OSDP_LOST_NO_REPLY: u32 = 1;
 pub const OSDP_LOST_TOO_BUSY: u32 = 2;
@@ -238,7 +240,7 @@ structs! {
     osdp_moment, 16 { moment: u64, present: u64, }
 
     #[derive(Clone, Copy)]
-    osdp_report, 2888 { entry: usize, kind: u32, detail: u32, command: osdp_message, reply: osdp_message, }
+    osdp_report, 2912 { entry: usize, number: u64, since: u64, kind: u32, detail: u32, numbered: u32, too_late: u32, command: osdp_message, reply: osdp_message, }
 
     #[derive(Debug)]
     osdp_device, 16 { device: *mut c_void, device_live: usize, }
@@ -404,16 +406,18 @@ calls! {
     osdp_panel_new(panel: *mut osdp_panel, config: *const osdp_panel_config);
     osdp_panel_new_with_room(panel: *mut osdp_panel, config: *const osdp_panel_config, bytes: usize);
     osdp_panel_free(panel: *mut osdp_panel);
-    osdp_panel_add(panel: *mut osdp_panel, address: u32, entry: *mut usize);
+    osdp_panel_add(panel: *mut osdp_panel, address: u32, next_number: u64, entry: *mut usize);
+    osdp_panel_next_number(panel: *mut osdp_panel, entry: usize, number: *mut u64);
     osdp_panel_begin(panel: *mut osdp_panel, entry: usize, now: u64);
-    osdp_panel_submit_nonnull(panel: *mut osdp_panel, entry: usize, code: u8, data: *const u8, length: usize);
-    osdp_panel_submit_text_nonnull(panel: *mut osdp_panel, entry: usize, text: *const c_char, length: usize);
+    osdp_panel_submit_nonnull(panel: *mut osdp_panel, entry: usize, code: u8, data: *const u8, length: usize, until: u64, number: *mut u64);
+    osdp_panel_submit_text_nonnull(panel: *mut osdp_panel, entry: usize, text: *const c_char, length: usize, until: u64, number: *mut u64);
     osdp_panel_withdraw(panel: *mut osdp_panel, entry: usize, command: *mut osdp_message);
     osdp_panel_retarget(panel: *mut osdp_panel, entry: usize, address: u32);
     osdp_panel_bytes_nonnull(panel: *mut osdp_panel, bytes: *const u8, length: usize, now: u64);
     osdp_panel_silence(panel: *mut osdp_panel, now: u64);
     osdp_panel_set_moment(panel: *mut osdp_panel, now: u64);
-    osdp_panel_tick(panel: *mut osdp_panel, now: u64, burst: *mut osdp_burst);
+    osdp_panel_tick(panel: *mut osdp_panel, now: u64, sends: *mut u32);
+    osdp_panel_write(panel: *mut osdp_panel, now: u64, burst: *mut osdp_burst);
     osdp_panel_next_deadline(panel: *mut osdp_panel, deadline: *mut osdp_moment);
     osdp_panel_next_report(panel: *mut osdp_panel, report: *mut osdp_report);
 

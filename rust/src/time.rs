@@ -10,6 +10,9 @@ use core::time::Duration;
 pub struct Moment(u64);
 
 impl Moment {
+    /// The last moment of an order that is never too late.
+    pub const NEVER: Moment = Moment(u64::MAX);
+
     /// The moment that lies so many milliseconds after the beginning.
     pub const fn from_millis(milliseconds: u64) -> Moment {
         Moment(milliseconds)

@@ -1,5 +1,4 @@
-//! Commands of a device that come as fast as they go. Where the setting asks for it, the device is asked for its events between two of them, and a card is told; else
-//! it waits as long as they come.
+//! Commands of a device that come as fast as they go: the device is asked for its events between two of them, and a card is told.
 mod settings;
 
 use osdp::{Command, Device, Error, Moment, Panel, PanelConfig, Report};
@@ -26,34 +25,33 @@ fn carry(
 }
 
 /// How many commands are settled and how many cards told in ten seconds, where a command is ordered as soon as there is room, and a card is shown at once.
-fn ten_seconds() -> Result<(usize, usize), Error> {
+fn ten_seconds() -> Result<(u64, usize), Error> {
     let mut panel = Panel::new(&PanelConfig {
         capacity: 4,
         ..PanelConfig::default()
     })?;
     let mut device = Device::new(&DEVICE)?;
-    let door = panel.add(5)?;
+    let door = panel.add(5, 0)?;
     panel.begin(door, Moment::from_millis(0))?;
     device.event(0x53, &[0, 1, 0x31])?;
     let (mut settled, mut cards) = (0, 0);
     for now in (1..10_000).map(Moment::from_millis) {
         while panel.waiting(door)? < 4 {
-            panel.submit(door, &Command::local_status())?;
+            panel.submit(door, &Command::local_status(), Moment::NEVER)?;
         }
         assert_eq!(
-            panel.submit(door, &Command::local_status()),
+            panel.submit(door, &Command::local_status(), Moment::NEVER),
             Err(Error::Full)
         );
-        let mut sent = Vec::new();
-        panel.tick(now)?.send(|bytes| -> Result<(), Error> {
-            sent.extend_from_slice(bytes);
-            Ok(())
-        })?;
+        let sent = panel.tick(now)?.write(now)?.to_vec();
         carry(&mut panel, &mut device, &sent, now)?;
-        while let Some((_, report)) = panel.next_report() {
-            match report {
-                Report::Settled(..) => settled += 1,
-                Report::Event { .. } => cards += 1,
+        while let Some(told) = panel.next_report() {
+            match told.report {
+                Report::Settled(..) => {
+                    assert_eq!(told.number, Some(settled));
+                    settled += 1;
+                }
+                Report::Event(_) => cards += 1,
                 _ => {}
             }
         }
@@ -74,7 +72,7 @@ fn a_card_waits_for_no_orders() {
 #[test]
 fn what_waits_is_counted_and_withdrawn() {
     let mut panel = Panel::new(&PanelConfig::default()).unwrap();
-    let door = panel.add(5).unwrap();
+    let door = panel.add(5, 0).unwrap();
     let commands = || {
         [
             Command::local_status(),
@@ -83,7 +81,7 @@ fn what_waits_is_counted_and_withdrawn() {
         ]
     };
     for command in commands() {
-        panel.submit(door, &command).unwrap();
+        panel.submit(door, &command, Moment::NEVER).unwrap();
     }
     assert_eq!(panel.waiting(door), Ok(3));
     for command in commands() {

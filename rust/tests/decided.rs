@@ -106,8 +106,8 @@ fn a_comset_is_told() {
 #[test]
 fn entries_are_of_their_panel() {
     let (mut here, mut there) = (panel(), panel());
-    let entry: EntryNumber = here.add(5).unwrap();
-    there.add(5).unwrap();
+    let entry: EntryNumber = here.add(5, 0).unwrap();
+    there.add(5, 0).unwrap();
     assert_eq!(there.address(entry), Err(Error::NoEntry));
     assert_eq!(here.address(entry), Ok(5));
     assert_eq!(here.entries().collect::<Vec<_>>(), [entry]);
@@ -124,7 +124,7 @@ fn panel() -> Panel {
 #[test]
 fn a_panel_goes_to_another_thread() {
     let mut panel = panel();
-    let added = spawn(move || panel.add(5).map(EntryNumber::index)).join();
+    let added = spawn(move || panel.add(5, 0).map(EntryNumber::index)).join();
     assert_eq!(added.ok(), Some(Ok(0)));
 }
 
@@ -132,10 +132,12 @@ fn a_panel_goes_to_another_thread() {
 #[test]
 fn refusals_have_their_reasons() {
     let mut panel = panel();
-    let entries: Vec<_> = (0..16).map(|address| panel.add(address).unwrap()).collect();
-    assert_eq!(panel.add(16), Err(Error::TooManyDevices));
+    let entries: Vec<_> = (0..16)
+        .map(|address| panel.add(address, 0).unwrap())
+        .collect();
+    assert_eq!(panel.add(16, 0), Err(Error::TooManyDevices));
     assert_eq!(
-        panel.submit_text(entries[0], "POLL"),
+        panel.submit_text(entries[0], "POLL", Moment::NEVER),
         Err(Error::PollSubmitted)
     );
     let now = Moment::from_millis(0);
@@ -164,14 +166,8 @@ fn due(panel: &Panel) -> Option<u64> {
 
 /// How many bytes the panel sends at a moment.
 fn sent(panel: &mut Panel, now: u64) -> usize {
-    let mut count = 0;
-    let unsent = panel.tick(Moment::from_millis(now)).unwrap();
-    let put = |burst: &[u8]| {
-        count = burst.len();
-        Ok::<(), Error>(())
-    };
-    unsent.send(put).unwrap();
-    count
+    let now = Moment::from_millis(now);
+    panel.tick(now).unwrap().write(now).unwrap().len()
 }
 
 /// Each setting does what its name says, and each report is the one that the panel leaves.
@@ -191,9 +187,13 @@ fn settings_are_those_of_the_panel() {
         ..PanelConfig::default()
     })
     .unwrap();
-    let door = panel.add(5).unwrap();
+    let door = panel.add(5, 0).unwrap();
     let at = Moment::from_millis;
-    let report = |panel: &mut Panel| panel.next_report().map(|(_, report)| report);
+    let report = |panel: &mut Panel, now| {
+        let told = panel.next_report().map(|told| told.report);
+        assert_eq!(sent(panel, now), 0); // nothing goes out in the turn that brought it
+        told
+    };
     panel.begin(door, at(0)).unwrap();
     assert_eq!((due(&panel), sent(&mut panel, 410)), (Some(410), 8));
     assert_eq!(due(&panel), Some(410 + 230));
@@ -205,7 +205,7 @@ fn settings_are_those_of_the_panel() {
     assert_eq!((due(&panel), sent(&mut panel, 680)), (Some(510 + 170), 8));
     panel.on_bytes(&BUSY, at(690)).unwrap(); // one BUSY too many
     assert_eq!(
-        report(&mut panel),
+        report(&mut panel, 690),
         Some(Report::Lost(LostCause::TooBusy, None))
     );
     panel.begin(door, at(700)).unwrap();
@@ -214,26 +214,32 @@ fn settings_are_those_of_the_panel() {
         [8, 8, 0]
     );
     assert_eq!(
-        report(&mut panel),
+        report(&mut panel, 1570),
         Some(Report::Lost(LostCause::NoReply, None))
     );
     panel.begin(door, at(1600)).unwrap();
     assert_eq!(sent(&mut panel, 2010), 8);
     panel.on_bytes(&PDID, at(2020)).unwrap();
-    assert!(matches!(report(&mut panel), Some(Report::Opened(_))));
+    assert!(matches!(report(&mut panel, 2020), Some(Report::Opened(_))));
     assert_eq!((due(&panel), sent(&mut panel, 2110)), (Some(2020 + 90), 7));
     panel.on_bytes(&RAW_OF_NONE, at(2120)).unwrap();
     let (command, code) = (None, 0x50);
-    assert_eq!(report(&mut panel), Some(Report::Unread { command, code }));
+    assert_eq!(
+        report(&mut panel, 2120),
+        Some(Report::Unread { command, code })
+    );
     assert_eq!(sent(&mut panel, 2210), 7);
     panel.on_bytes(&NAK_3, at(2220)).unwrap();
     let nak = Reply::read(0x41, &[3]).unwrap();
-    assert_eq!(report(&mut panel), Some(Report::Answered(nak)));
+    assert_eq!(report(&mut panel, 2220), Some(Report::Answered(nak)));
     // so is the answer to a command that can't be read
     let asked = Command::local_status();
-    panel.submit(door, &asked).unwrap();
+    panel.submit(door, &asked, Moment::NEVER).unwrap();
     assert_eq!(sent(&mut panel, 2230), 7);
     panel.on_bytes(&RAW_OF_NONE_3, at(2240)).unwrap();
     let (command, code) = (Some(asked), 0x50);
-    assert_eq!(report(&mut panel), Some(Report::Unread { command, code }));
+    assert_eq!(
+        report(&mut panel, 2240),
+        Some(Report::Unread { command, code })
+    );
 }

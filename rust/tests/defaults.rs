@@ -150,10 +150,11 @@ fn what_is_wrong_is_told_by_its_own_error() {
     };
     assert_eq!(Device::new(&address).err(), Some(Error::OutOfRange));
     let mut panel = Panel::new(&PanelConfig::default()).unwrap();
-    let door = panel.add(5).unwrap();
-    assert_eq!(panel.add(127), Err(Error::OutOfRange));
-    assert_eq!(panel.add(5), Err(Error::AddressTaken));
-    assert_eq!(panel.submit_text(door, "nonsense"), Err(Error::BadText));
+    let door = panel.add(5, 0).unwrap();
+    assert_eq!(panel.add(127, 0), Err(Error::OutOfRange));
+    assert_eq!(panel.add(5, 0), Err(Error::AddressTaken));
+    let submitted = panel.submit_text(door, "nonsense", Moment::NEVER);
+    assert_eq!(submitted, Err(Error::BadText));
     let mut device = Device::new(&DEVICE).unwrap();
     assert_eq!(device.event_text("nonsense"), Err(Error::BadText));
     assert_eq!(device.event(0x40, &[]), Err(Error::NoEvent));
@@ -164,7 +165,7 @@ fn what_is_wrong_is_told_by_its_own_error() {
 #[test]
 fn what_is_offline_is_not_refreshed() {
     let mut panel = Panel::new(&PanelConfig::default()).unwrap();
-    let door = panel.add(5).unwrap();
+    let door = panel.add(5, 0).unwrap();
     let mut site = Site::<1>::new(&panel, Moment::from_millis(0));
     assert!(!site.is_refreshed(door));
     let red = Command::color(color::RED).unwrap();

@@ -38,7 +38,7 @@ static ALLOCATOR: Counted = Counted;
 
 fn both() -> Result<(Panel, Device), Error> {
     let mut panel = Panel::new(&PanelConfig::default())?;
-    panel.add(5)?;
+    panel.add(5, 0)?;
     let device = Device::new(&DEVICE)?;
     Ok((panel, device))
 }
@@ -97,7 +97,7 @@ fn main() {
     let whole = taken(both);
     let small = taken(|| {
         let mut panel = Panel::with_room(&PanelConfig::default(), 100)?;
-        panel.add(5)?;
+        panel.add(5, 0)?;
         Ok((panel, Device::with_room(&DEVICE, 100)?))
     });
     assert!(small + 64 * 1_000 < whole, "{small} of {whole}");

@@ -16,7 +16,7 @@ fn a_panel_refuses_what_lies_too_far_ahead() {
         ..PanelConfig::default()
     })
     .unwrap();
-    let door = panel.add(5).unwrap();
+    let door = panel.add(5, 0).unwrap();
     let begin = 1 << 40; // the first moment may be any
     assert_eq!(panel.begin(door, at(begin)), Ok(()));
     let late = at(begin + 1001);
@@ -26,9 +26,12 @@ fn a_panel_refuses_what_lies_too_far_ahead() {
     // the opening ID is due 400 ms after `begin`, as if no other moment had come
     assert_eq!(panel.next_deadline(), Some(at(begin + 400)));
     let unsent = panel.tick(at(begin + 400)).unwrap();
-    assert_eq!(unsent.send(|_| Ok::<(), Error>(())), Ok(true));
+    assert!(unsent.is_one());
+    let written = unsent.write(at(begin + 1401));
+    assert_eq!(written.err(), Some(Error::MomentTooFar));
     panel.set_moment(at(begin + 5000));
-    assert!(panel.tick(at(begin + 6000)).is_ok());
+    let unsent = panel.tick(at(begin + 6000)).unwrap();
+    assert_eq!(unsent.write(at(begin + 6000)).unwrap().len(), 9); // the opening ID once more
 }
 
 #[test]
@@ -85,9 +88,10 @@ fn a_limit_of_more_than_49_days_is_refused() {
 #[test]
 fn what_is_asked_changes_nothing() {
     let mut panel = Panel::new(&PanelConfig::default()).unwrap();
-    let door = panel.add(5).unwrap();
+    let door = panel.add(5, 3).unwrap();
     let asked: &Panel = &panel;
     assert_eq!((asked.address(door), asked.waiting(door)), (Ok(5), Ok(0)));
+    assert_eq!(asked.next_number(door), Ok(3));
     assert_eq!(
         (asked.is_closed(door), asked.next_deadline()),
         (Ok(true), None)

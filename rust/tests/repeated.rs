@@ -76,7 +76,7 @@ fn device_hears(device: &mut Device, mut bytes: &[u8], line: &mut Line) -> Resul
 /// How many cards were told, how many of them once more, how many made an order, and how many a second one.
 fn run(looks: bool) -> Result<(usize, usize, usize, usize), Error> {
     let mut panel = Panel::new(&PanelConfig::default())?;
-    let door = panel.add(5)?;
+    let door = panel.add(5, 0)?;
     let mut device = Device::new(&DeviceConfig::new(5))?;
     device.set_outputs(&[0])?;
     let mut line = Line {
@@ -111,20 +111,17 @@ fn run(looks: bool) -> Result<(usize, usize, usize, usize), Error> {
             panel.begin(door, now)?;
             begins = None;
         }
-        while let Some((_, report)) = panel.next_report() {
-            match report {
-                Report::Event {
-                    event: Reply::Raw(card),
-                    maybe_again,
-                } => {
+        while let Some(report) = panel.next_report() {
+            match report.report {
+                Report::Event(Reply::Raw(card)) => {
                     let is_again = told == read || last.as_ref() == Some(&card);
                     if is_again {
                         again += 1;
                     } else {
                         (told, orders, next_card) = (told + 1, 0, Some(line.now + 200));
                     }
-                    if !(looks && maybe_again) && may_enter(&card) {
-                        panel.submit(door, &Command::out(&[STRIKE])?)?;
+                    if !(looks && report.maybe_again) && may_enter(&card) {
+                        panel.submit(door, &Command::out(&[STRIKE])?, Moment::NEVER)?;
                         orders += 1;
                         first += usize::from(orders == 1 && !is_again);
                         second += usize::from(orders > 1);
@@ -135,7 +132,10 @@ fn run(looks: bool) -> Result<(usize, usize, usize, usize), Error> {
                 _ => {}
             }
         }
-        panel.tick(now)?.send(|burst| line.carry(false, burst))?;
+        let burst = panel.tick(now)?.write(now)?;
+        if !burst.is_empty() {
+            line.carry(false, &burst)?;
+        }
     }
     Ok((told, again, first, second))
 }

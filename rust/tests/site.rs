@@ -1,6 +1,6 @@
 //! A site over a panel and a device, which are joined in memory: what is refused; that states come once after each opening, the latest of each, and in their
 //! order, also where the panel has room for one command; that a state which is longer than the panel's room keeps none waiting; that orders for a time are not
-//! repeated; when sessions begin; that a turn which comes too late hands in no bytes, and lets sessions end; and that a moment too far ahead takes nothing back.
+//! repeated; when sessions begin; that no order goes out late where the program stood still; and that a moment too far ahead takes nothing back.
 mod settings;
 
 use osdp::{
@@ -24,9 +24,9 @@ struct Line {
     answered: Vec<u8>,
     taken: Vec<String>,
     told: Vec<Presence>,
-    events: usize,
-    /// Whether the last turn came too late.
-    stood_still: bool,
+    /// The orders that were lost, by their numbers, and whether they were too late to be sent again; and those that expired.
+    lost: Vec<(Option<u64>, bool)>,
+    expired: Vec<Option<u64>>,
     now: u64,
 }
 
@@ -43,7 +43,7 @@ fn line() -> Line {
 }
 
 fn line_over(mut panel: Panel) -> Line {
-    let door = panel.add(5).unwrap();
+    let door = panel.add(5, 0).unwrap();
     let mut device = Device::new(&DeviceConfig {
         clock_limit: Duration::ZERO, // a day: the device is away for a while
         ..DEVICE
@@ -60,16 +60,20 @@ fn line_over(mut panel: Panel) -> Line {
         answered: Vec::new(),
         taken: Vec::new(),
         told: Vec::new(),
-        events: 0,
-        stood_still: false,
+        lost: Vec::new(),
+        expired: Vec::new(),
         now: 1000,
     }
 }
 
 impl Line {
     fn take_reports(&mut self) {
-        while let Some((_, report, change)) = self.site.next_report(&mut self.panel, at(self.now)) {
-            self.events += usize::from(matches!(report, Report::Event { .. }));
+        while let Some((told, change)) = self.site.next_report(&mut self.panel, at(self.now)) {
+            match told.report {
+                Report::Lost(..) => self.lost.push((told.number, told.too_late)),
+                Report::Expired(_) => self.expired.push(told.number),
+                _ => {}
+            }
             self.told.extend(change);
         }
     }
@@ -100,18 +104,10 @@ impl Line {
         while self.now < until {
             let bytes = std::mem::take(&mut self.answered);
             let now = at(self.now);
-            let heard = self.site.on_bytes(&mut self.panel, &bytes, now);
-            self.stood_still = heard.unwrap();
+            self.panel.on_bytes(&bytes, now).unwrap();
             self.take_reports();
-            self.site.act(&mut self.panel, at(self.now)).unwrap();
-            let mut burst = Vec::new();
-            let put = |bytes: &[u8]| {
-                burst.extend(bytes);
-                Ok::<(), Error>(())
-            };
-            let unsent = self.site.tick(&mut self.panel, now).unwrap();
-            unsent.send(put).unwrap();
-            self.take_reports();
+            self.site.act(&mut self.panel, now).unwrap();
+            let burst = self.panel.tick(now).unwrap().write(now).unwrap().to_vec();
             if self.is_there {
                 self.answer(&burst);
             }
@@ -119,19 +115,10 @@ impl Line {
         }
     }
 
-    /// Runs until the device has told keys, which nobody has heard yet.
-    fn run_until_told(&mut self) {
-        self.device.event_text("KEYPAD 0 31").unwrap();
-        while self.answered.get(5) != Some(&0x53) {
-            self.run(self.now + 1);
-        }
-    }
-
-    /// The next turn comes so many milliseconds after it was due.
-    fn run_late(&mut self, late: u64) {
-        let due = self.site.wait_until(&self.panel, at(u64::MAX));
-        self.now = due.as_millis() + late;
-        self.run(self.now + 1);
+    /// Orders that the strike is on for so many tenths of a second, until a moment.
+    fn order(&mut self, tenths: u16, until: Moment) -> Result<Option<u64>, Error> {
+        let strike = Command::output_for(0, tenths).unwrap();
+        self.site.order(&mut self.panel, self.door, &strike, until)
     }
 
     fn wants(&mut self, command: &Command) {
@@ -146,11 +133,7 @@ fn states_come_again_and_orders_do_not() {
     line.wants(&Command::sound(false));
     line.wants(&Command::color(color::GREEN).unwrap());
     line.wants(&Command::text(&Text::new(b"AB").unwrap()));
-    let strike = Command::output_for(0, 50).unwrap();
-    assert_eq!(
-        line.site.order(&mut line.panel, line.door, &strike),
-        Ok(false)
-    );
+    assert_eq!(line.order(50, Moment::NEVER), Ok(None));
     line.run(3000);
     let (sound, green, text) = (
         "BUZ 0 1 5 5 0",
@@ -161,10 +144,7 @@ fn states_come_again_and_orders_do_not() {
     assert_eq!(line.told, [Presence::Online(at(1401))]);
     assert!(line.site.is_refreshed(line.door) && line.site.next_deadline().is_none());
     line.taken.clear();
-    assert_eq!(
-        line.site.order(&mut line.panel, line.door, &strike),
-        Ok(true)
-    );
+    assert_eq!(line.order(50, Moment::NEVER), Ok(Some(3))); // after three states
     line.run(3500);
     assert_eq!(line.taken, ["OUT 0:5:50"]);
 
@@ -183,74 +163,38 @@ fn states_come_again_and_orders_do_not() {
     assert!(line.told.len() == 3 && line.site.is_refreshed(line.door));
 }
 
+/// One order has gone out and one waits as the program stands still: neither goes out later. The first one is in doubt, and the next one is done.
 #[test]
-fn a_turn_that_comes_too_late_lets_sessions_end() {
+fn no_order_goes_out_late() {
     let mut line = line();
     line.run(3000);
-    let strike = Command::output_for(0, 50).unwrap();
-    let orders = |line: &mut Line| line.site.order(&mut line.panel, line.door, &strike);
-    assert_eq!(orders(&mut line), Ok(true));
     line.is_there = false;
+    assert_eq!(line.order(50, at(8000)), Ok(Some(0)));
     line.run(3050); // it has gone out, and nobody has heard it
-    assert_eq!(orders(&mut line), Ok(true)); // that one waits
-    line.is_there = true;
-    line.run_late(5001);
-    assert!(
-        line.stood_still
-            && line
-                .site
-                .presence(line.door)
-                .is_some_and(Presence::is_online)
+    assert_eq!(line.order(51, at(8050)), Ok(Some(1))); // that one waits
+    (line.is_there, line.now) = (true, 8051);
+    line.run(12_000);
+    assert_eq!(
+        (&line.lost[..], &line.expired[..]),
+        (&[(Some(0), true)][..], &[Some(1)][..])
     );
-    assert_eq!(orders(&mut line), Ok(false));
-    line.run(line.now + 5000);
-    assert!(line.taken.is_empty() && line.told.len() == 3 && line.site.is_refreshed(line.door));
-    assert_eq!(orders(&mut line), Ok(true));
-    line.run(line.now + 500);
-    assert_eq!(line.taken, ["OUT 0:5:50"]);
-
-    line.run_until_told();
-    line.run_late(5000); // as late as it may be
-    assert!(!line.stood_still && line.events == 1);
-    line.run_until_told();
-    line.run_late(5001);
-    line.run(line.now + 300);
-    assert_eq!((line.events, line.told.len()), (1, 3)); // those of long ago aren't heard
-    line.run(line.now + 5000);
-    assert_eq!((line.events, line.told.len()), (2, 5)); // their device has told them again
-
-    line.site.leave();
-    assert_eq!(orders(&mut line), Ok(false));
-    line.wants(&Command::sound(false));
-    line.run(line.now + 1);
-    assert!(!line.site.is_refreshed(line.door)); // a state waits for the next session
-    line.run(line.now + 5000);
-    assert!(line.told.len() == 7 && line.site.is_refreshed(line.door));
-
-    let limits = Site::new(&line.panel, at(line.now)).with_late(Duration::MAX);
-    line.site = limits; // a moment that is too far ahead is too late whatever the setting is
-    line.now += 25 * 3_600_000;
-    line.device.set_moment(at(line.now));
-    line.run(line.now + 1);
-    assert!(line.stood_still);
-    line.run(line.now + 5000);
-
-    line.site = Site::new(&line.panel, at(line.now)).with_late(Duration::from_millis(100));
-    line.run_late(101);
-    assert!(!line.stood_still); // no turn was before it
-    line.run_late(100);
-    assert!(!line.stood_still);
-    line.run_late(101);
-    assert!(line.stood_still);
+    assert!(line.taken.is_empty() && line.told.len() == 3);
+    assert_eq!(line.order(52, at(13_000)), Ok(Some(2)));
+    line.run(13_000);
+    assert_eq!(line.taken, ["OUT 0:5:52"]);
 }
 
+/// An order that waits for a POLL is told as expired, by its number, once its last moment has passed.
 #[test]
-fn a_session_that_opens_is_not_let_end() {
-    let mut line = line();
-    line.run(1100);
-    line.site.leave();
+fn an_order_that_waits_expires() {
+    let mut line = line_over(Panel::new(&PanelConfig::default()).unwrap());
     line.run(3000);
-    assert_eq!(line.told, [Presence::Online(at(1401))]);
+    let until = at(line.now + 20); // a POLL comes 50 ms after an answer
+    assert_eq!(line.order(50, until), Ok(Some(0)));
+    assert_eq!(line.order(51, until), Ok(Some(1)));
+    line.run(3500);
+    assert_eq!(line.taken, ["OUT 0:5:50"]);
+    assert_eq!((&line.expired[..], line.lost.len()), (&[Some(1)][..], 0));
 }
 
 #[test]
@@ -303,7 +247,7 @@ fn what_lasts_for_a_time_is_refused() {
         assert_eq!(wanted, if number < 16 { Ok(()) } else { full });
     }
     line.wants(&out(&[output(3, 1)])); // the same again needs no room
-    let other = line.panel.add(6).unwrap(); // the site has one entry
+    let other = line.panel.add(6, 0).unwrap(); // the site has one entry
     let wanted = line.site.wants(other, &Command::sound(false));
     assert_eq!(wanted, Err(SiteError::NoEntry));
 }
@@ -349,7 +293,7 @@ fn a_moment_too_far_ahead_takes_nothing_back() {
     let mut line = line();
     line.panel.on_bytes(&[], at(1000)).unwrap();
     let sound = Command::sound(false);
-    line.panel.submit(line.door, &sound).unwrap();
+    line.panel.submit(line.door, &sound, Moment::NEVER).unwrap();
     let late = at(1000 + 2 * 86_400_000); // a panel allows a day by default
     let acted = line.site.act(&mut line.panel, late);
     assert_eq!(acted, Err(Error::MomentTooFar));
@@ -442,9 +386,7 @@ fn what_was_submitted_is_not_submitted_again() {
     line.site.act(&mut line.panel, at(3000)).unwrap();
     assert_eq!(line.panel.waiting(line.door), Ok(1));
     line.wants(&Command::sound(false));
-    let strike = Command::output_for(0, 50).unwrap();
-    let ordered = line.site.order(&mut line.panel, line.door, &strike);
-    assert_eq!(ordered, Ok(false));
+    assert_eq!(line.order(50, Moment::NEVER), Ok(None));
     line.run(4000);
     let (green, silent) = ("LED 0:0:0:0:0:0:0:0:1:1:0:2:2", "BUZ 0 1 5 5 0");
     assert_eq!(line.taken, [green, silent]);
@@ -491,7 +433,7 @@ fn no_stale_order_is_left() {
     let mut line = line_over(Panel::new(&PanelConfig::default()).unwrap());
     for _ in 0..3 {
         let sound = Command::sound(true);
-        line.panel.submit(line.door, &sound).unwrap();
+        line.panel.submit(line.door, &sound, Moment::NEVER).unwrap();
     }
     assert_eq!(line.site.act(&mut line.panel, at(1000)), Ok(()));
     assert_eq!(line.panel.waiting(line.door), Ok(0));

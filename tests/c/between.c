@@ -4,6 +4,7 @@
 
 #include "demands.h"
 #include "osdp.h"
+#include "panels.h"
 
 static osdp_panel panel;
 static osdp_device device;
@@ -12,7 +13,7 @@ static size_t entry, settled, cards;
 
 static osdp_status submit(const char *text)
 {
-    return osdp_panel_submit_text(&panel, entry, text, strlen(text));
+    return gives(&panel, entry, text);
 }
 
 static size_t waiting(void)
@@ -27,7 +28,7 @@ static void new_panel(void)
     struct osdp_panel_config config;
     osdp_panel_defaults(&config);
     config.capacity = 4;
-    demand(osdp_panel_new(&panel, &config) == OSDP_OK && osdp_panel_add(&panel, 5, &entry) == OSDP_OK);
+    demand(osdp_panel_new(&panel, &config) == OSDP_OK && osdp_panel_add(&panel, 5, 0, &entry) == OSDP_OK);
 }
 
 /* What the panel sends comes to the device at once, and its answer to the panel. */
@@ -61,7 +62,7 @@ static void turn(void)
         demand(submit("LSTAT") == OSDP_OK);
     }
     demand(submit("LSTAT") == OSDP_COMMANDS_FULL);
-    demand(osdp_panel_tick(&panel, now, &burst) == OSDP_OK);
+    demand(ticks(&panel, now, &burst) == OSDP_OK);
     carry(burst.bytes, burst.length);
     while (take_report()) {
     }

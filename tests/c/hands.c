@@ -6,7 +6,7 @@
 #include <stdlib.h>
 
 static const void *pointers[4]; /* what was handed on, in its order, but the handle */
-static uint64_t numbers[3];
+static uint64_t numbers[4];
 static const void *handle;
 static int calls;
 
@@ -18,23 +18,24 @@ static void fail(int where, const char *what)
     exit(1);
 }
 
-static osdp_status handed(const void *first, const void *p0, const void *p1, const void *p2, const void *p3, uint64_t n0, uint64_t n1, uint64_t n2)
+static osdp_status handed(const void *first, const void *p0, const void *p1, const void *p2, const void *p3, uint64_t n0, uint64_t n1, uint64_t n2, uint64_t n3)
 {
     calls++;
     handle = first;
     pointers[0] = p0, pointers[1] = p1, pointers[2] = p2, pointers[3] = p3;
-    numbers[0] = n0, numbers[1] = n1, numbers[2] = n2;
+    numbers[0] = n0, numbers[1] = n1, numbers[2] = n2, numbers[3] = n3;
     return OSDP_NOT_ASKED; /* a status of its own, which is handed back */
 }
 
-#define HANDED(first, p0, p1, p2, p3, n0, n1, n2) { return handed(first, p0, p1, p2, p3, n0, n1, n2); }
+#define HANDED(first, p0, p1, p2, p3, n0, n1, n2) { return handed(first, p0, p1, p2, p3, n0, n1, n2, 0); }
+#define HANDED_UNTIL(first, p0, p1, n0, n1, n2, until) { return handed(first, p0, p1, NULL, NULL, n0, n1, n2, until); }
 
 osdp_status osdp_command_text_nonnull(uint8_t code, const uint8_t *data, osdp_size length, char *text, osdp_size room, osdp_size *text_length) HANDED(NULL, data, text, text_length, NULL, code, length, room)
 osdp_status osdp_reply_text_nonnull(uint8_t code, const uint8_t *data, osdp_size length, char *text, osdp_size room, osdp_size *text_length) HANDED(NULL, data, text, text_length, pointers, code, length, room)
 osdp_status osdp_out_nonnull(const struct osdp_output *outputs, osdp_size count, struct osdp_message *command) HANDED(NULL, outputs, command, NULL, NULL, count, 0, 0)
 osdp_status osdp_led_nonnull(const struct osdp_led *leds, osdp_size count, struct osdp_message *command) HANDED(NULL, leds, command, NULL, pointers, count, 0, 0)
-osdp_status osdp_panel_submit_nonnull(osdp_panel *panel, osdp_size entry, uint8_t code, const uint8_t *data, osdp_size length) HANDED(panel, data, NULL, NULL, NULL, entry, code, length)
-osdp_status osdp_panel_submit_text_nonnull(osdp_panel *panel, osdp_size entry, const char *text, osdp_size length) HANDED(panel, text, NULL, NULL, NULL, entry, length, 0)
+osdp_status osdp_panel_submit_nonnull(osdp_panel *panel, osdp_size entry, uint8_t code, const uint8_t *data, osdp_size length, uint64_t until, uint64_t *number) HANDED_UNTIL(panel, data, number, entry, code, length, until)
+osdp_status osdp_panel_submit_text_nonnull(osdp_panel *panel, osdp_size entry, const char *text, osdp_size length, uint64_t until, uint64_t *number) HANDED_UNTIL(panel, text, number, entry, length, 0, until)
 osdp_status osdp_panel_bytes_nonnull(osdp_panel *panel, const uint8_t *bytes, osdp_size length, uint64_t now) HANDED(panel, bytes, NULL, NULL, NULL, length, now, 0)
 osdp_status osdp_device_new_nonnull(osdp_device *device, const struct osdp_device_config *config, const uint8_t *bytes, osdp_size length) HANDED(device, bytes, config, NULL, NULL, length, 0, 0)
 osdp_status osdp_device_new_with_room_nonnull(osdp_device *device, const struct osdp_device_config *config, const uint8_t *bytes, osdp_size length, osdp_size room) HANDED(device, bytes, config, NULL, NULL, length, room, 0)
@@ -74,6 +75,7 @@ static const struct osdp_device_config config;
 static char text[9];
 static uint8_t bytes[9], vendor[3];
 static osdp_size count;
+static uint64_t order;
 
 static void texts(void)
 {
@@ -105,11 +107,11 @@ static void records(void)
 
 static void of_a_panel(void)
 {
-#define SUBMIT(data, length) osdp_panel_submit(&panel, 15, 0x68, data, length)
-#define SUBMIT_HANDS(status, length) hands(status, &panel, NULL, NULL, NULL, 15, 0x68, length)
+#define SUBMIT(data, length) osdp_panel_submit(&panel, 15, 0x68, data, length, 7000, &order)
+#define SUBMIT_HANDS(status, length) (hands(status, &panel, &order, NULL, NULL, 15, 0x68, length) && numbers[3] == 7000)
     LOOKS(bytes, SUBMIT_HANDS, SUBMIT, 8);
-#define SUBMIT_TEXT(line, length) osdp_panel_submit_text(&panel, 15, line, length)
-#define SUBMIT_TEXT_HANDS(status, length) hands(status, &panel, NULL, NULL, NULL, 15, length, 0)
+#define SUBMIT_TEXT(line, length) osdp_panel_submit_text(&panel, 15, line, length, OSDP_NEVER, &order)
+#define SUBMIT_TEXT_HANDS(status, length) (hands(status, &panel, &order, NULL, NULL, 15, length, 0) && numbers[3] == UINT64_MAX)
     LOOKS(text, SUBMIT_TEXT_HANDS, SUBMIT_TEXT, 8);
 #define BYTES(data, length) osdp_panel_bytes(&panel, data, length, 1000)
 #define BYTES_HANDS(status, length) hands(status, &panel, NULL, NULL, NULL, length, 1000, 0)

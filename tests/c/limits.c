@@ -4,6 +4,7 @@
 
 #include "demands.h"
 #include "osdp.h"
+#include "panels.h"
 
 /* The packet with this address, number, code and data. */
 static size_t packet(uint8_t *bytes, uint8_t address, uint8_t number, uint8_t code, const uint8_t *data, size_t length)
@@ -50,11 +51,11 @@ static void capacities(void)
     config.capacity = 1025;
     demand(osdp_panel_new(&panel, &config) == OSDP_PANEL_OUT_OF_RANGE);
     config.capacity = 1024;
-    demand(osdp_panel_new(&panel, &config) == OSDP_OK && osdp_panel_add(&panel, 126, &entry) == OSDP_OK);
+    demand(osdp_panel_new(&panel, &config) == OSDP_OK && osdp_panel_add(&panel, 126, 0, &entry) == OSDP_OK);
     for (int i = 0; i < 1024; i++) {
-        demand(osdp_panel_submit_text(&panel, entry, "LSTAT", 5) == OSDP_OK);
+        demand(gives(&panel, entry, "LSTAT") == OSDP_OK);
     }
-    demand(osdp_panel_submit_text(&panel, entry, "LSTAT", 5) == OSDP_COMMANDS_FULL);
+    demand(gives(&panel, entry, "LSTAT") == OSDP_COMMANDS_FULL);
     demand(osdp_panel_free(&panel) == OSDP_OK);
 
     struct osdp_device reader = { 0 };
@@ -82,12 +83,12 @@ static void rooms(void)
     config.capacity = 4;
     demand(osdp_panel_new_with_room(&panel, &config, 0) == OSDP_PANEL_OUT_OF_RANGE);
     demand(osdp_panel_new_with_room(&panel, &config, 1024 * 1433 + 1) == OSDP_PANEL_OUT_OF_RANGE);
-    demand(osdp_panel_new_with_room(&panel, &config, 11) == OSDP_OK && osdp_panel_add(&panel, 126, &entry) == OSDP_OK);
+    demand(osdp_panel_new_with_room(&panel, &config, 11) == OSDP_OK && osdp_panel_add(&panel, 126, 0, &entry) == OSDP_OK);
     demand(osdp_panel_new_with_room(&panel, &config, 11) == OSDP_IN_USE);
-    demand(osdp_panel_submit(&panel, entry, 0x68, off, 4) == OSDP_OK && osdp_panel_submit(&panel, entry, 0x68, off, 4) == OSDP_OK);
-    demand(osdp_panel_submit(&panel, entry, 0x68, off, 4) == OSDP_COMMANDS_FULL);
-    demand(osdp_panel_submit_text(&panel, entry, "LSTAT", 5) == OSDP_OK);
-    demand(osdp_panel_submit_text(&panel, entry, "LSTAT", 5) == OSDP_COMMANDS_FULL);
+    demand(gives_data(&panel, entry, 0x68, off, 4) == OSDP_OK && gives_data(&panel, entry, 0x68, off, 4) == OSDP_OK);
+    demand(gives_data(&panel, entry, 0x68, off, 4) == OSDP_COMMANDS_FULL);
+    demand(gives(&panel, entry, "LSTAT") == OSDP_OK);
+    demand(gives(&panel, entry, "LSTAT") == OSDP_COMMANDS_FULL);
     demand(osdp_panel_waiting(&panel, entry, &waiting) == OSDP_OK && waiting == 3);
     demand(osdp_panel_free(&panel) == OSDP_OK);
 
@@ -117,15 +118,15 @@ static void addresses(void)
     struct osdp_device_config what = reader_config();
     const uint8_t none[] = { 0 };
     size_t entry = 99;
-    demand(osdp_panel_new(&panel, &config) == OSDP_OK && osdp_panel_add(&panel, 0, &entry) == OSDP_OK && entry == 0);
+    demand(osdp_panel_new(&panel, &config) == OSDP_OK && osdp_panel_add(&panel, 0, 0, &entry) == OSDP_OK && entry == 0);
     for (size_t i = 0; i < sizeof bad / sizeof bad[0]; i++) {
         entry = 99;
-        demand(osdp_panel_add(&panel, bad[i], &entry) == OSDP_PANEL_OUT_OF_RANGE && entry == 99);
+        demand(osdp_panel_add(&panel, bad[i], 0, &entry) == OSDP_PANEL_OUT_OF_RANGE && entry == 99);
         demand(osdp_panel_retarget(&panel, 0, bad[i]) == OSDP_PANEL_OUT_OF_RANGE);
         what.address = bad[i];
         demand(osdp_device_new(&reader, &what, none, 0) == OSDP_DEVICE_OUT_OF_RANGE);
     }
-    demand(osdp_panel_add(&panel, 126, &entry) == OSDP_OK && entry == 1);
+    demand(osdp_panel_add(&panel, 126, 0, &entry) == OSDP_OK && entry == 1);
     what.address = 126;
     demand(osdp_device_new(&reader, &what, none, 0) == OSDP_OK);
     demand(osdp_device_free(&reader) == OSDP_OK && osdp_panel_free(&panel) == OSDP_OK);
@@ -254,7 +255,7 @@ static void texts(void)
 /* ---- reports ---- */
 
 static struct osdp_panel panel;
-static uint64_t now;
+static uint64_t now, asked_at, order; /* the moment of the last packet, and the number of the last order */
 static uint8_t number;
 
 static const uint8_t out[] = { 0, 2, 0, 0 }, id[] = { 'S', 'I', 'M', 7, 8, 1, 2, 3, 4, 9, 10, 11 };
@@ -275,18 +276,23 @@ static bool is_message(const struct osdp_message *message, struct wanted wanted)
         && is_pattern(message->data + wanted.length, sizeof message->data - wanted.length);
 }
 
-/* The report that waits is this one, of entry 1, and then none waits. */
+/* The report that waits is this one, of entry 1, and then none waits. The turn that has brought it sends nothing. */
 static void is_told(uint32_t kind, uint32_t detail, struct wanted command, struct wanted reply)
 {
     static struct osdp_report report;
+    uint32_t sends = 9;
     memset(&report, pattern, sizeof report);
     demand(osdp_panel_next_report(&panel, &report) == OSDP_OK);
-    demand(report.kind == kind && report.entry == 1 && report.detail == detail);
+    demand(report.kind == kind && report.entry == 1 && report.detail == detail && report.too_late == 0);
+    demand(report.numbered == (command.code != 0) && report.number == (command.code != 0 ? order : 0));
+    demand(report.since == (kind == OSDP_REPORT_EVENT ? asked_at : 0));
     demand(is_message(&report.command, command) && is_message(&report.reply, reply));
     memset(&report, pattern, sizeof report);
     demand(osdp_panel_next_report(&panel, &report) == OSDP_OK);
     demand(report.kind == OSDP_REPORT_NONE && report.entry == 0 && report.detail == 0);
+    demand(report.numbered == 0 && report.number == 0 && report.since == 0 && report.too_late == 0);
     demand(is_message(&report.command, none) && is_message(&report.reply, none));
+    demand(osdp_panel_tick(&panel, now, &sends) == OSDP_OK && sends == 0);
 }
 
 /* After so many milliseconds this command goes out, to address 6 with the number that has its turn. */
@@ -294,8 +300,10 @@ static void asks(uint64_t wait, uint8_t code, const uint8_t *data, size_t length
 {
     static struct osdp_burst burst;
     now += wait;
-    demand(osdp_panel_tick(&panel, now, &burst) == OSDP_OK);
+    asked_at = now;
+    demand(ticks(&panel, now, &burst) == OSDP_OK);
     demand(is_burst(&burst, 6, number, code, data, length));
+    now += 3; /* until it is answered */
 }
 
 static void answers(uint8_t with, uint8_t code, const uint8_t *data, size_t length)
@@ -323,7 +331,7 @@ static void opens(void)
 
 static void orders(void)
 {
-    demand(osdp_panel_submit(&panel, 1, 0x68, out, 4) == OSDP_OK);
+    demand(osdp_panel_submit(&panel, 1, 0x68, out, 4, OSDP_NEVER, &order) == OSDP_OK);
     next_number();
     asks(0, 0x68, out, 4);
 }
@@ -392,12 +400,12 @@ static void reports(void)
     const uint8_t set[] = { 9, 0x00, 0x4B, 0, 0 }, confirmed[] = { 9, 0x80, 0x25, 0, 0 }, wrong[] = { 4 };
     const struct wanted comset = { 0x6E, set, 5 }, com = { 0x54, confirmed, 5 }, nak = { 0x41, wrong, 1 }, busy_reply = { 0x79, out, 0 };
     struct osdp_panel_config config = panel_config();
-    struct osdp_burst burst;
+    uint32_t sends = 9;
     size_t entry;
     config.sends = 1;
     config.busy_limit = 0;
     demand(osdp_panel_new(&panel, &config) == OSDP_OK);
-    demand(osdp_panel_add(&panel, 5, &entry) == OSDP_OK && osdp_panel_add(&panel, 6, &entry) == OSDP_OK && entry == 1);
+    demand(osdp_panel_add(&panel, 5, 0, &entry) == OSDP_OK && osdp_panel_add(&panel, 6, 1000, &entry) == OSDP_OK && entry == 1);
     long_session();
     events_again();
     opens();
@@ -406,10 +414,10 @@ static void reports(void)
     ordered(number % 3 + 1, nak, OSDP_REPORT_LOST, OSDP_LOST_NUMBER_REFUSED, none);
     opens();
     orders();
-    demand(osdp_panel_tick(&panel, now += 200, &burst) == OSDP_OK && burst.length == 0);
+    demand(osdp_panel_tick(&panel, now += 200, &sends) == OSDP_OK && sends == 0);
     is_told(OSDP_REPORT_LOST, OSDP_LOST_NO_REPLY, is_out, none);
     opens();
-    demand(osdp_panel_submit(&panel, 1, 0x6E, set, 5) == OSDP_OK);
+    demand(osdp_panel_submit(&panel, 1, 0x6E, set, 5, OSDP_NEVER, &order) == OSDP_OK && order > 1000);
     next_number();
     asks(0, 0x6E, set, 5);
     answers(number, 0x54, confirmed, 5);
@@ -449,8 +457,8 @@ static void nulls(void)
     demand(osdp_command_text(0x60, NULL, 0, NULL, 0, &length) == OSDP_TOO_SMALL && length == 4);
     demand(osdp_reply_text(0x40, NULL, 0, NULL, 0, &length) == OSDP_TOO_SMALL && length == 3);
     demand(osdp_out(NULL, 0, &command) == OSDP_BAD_LENGTH && osdp_led(NULL, 0, &command) == OSDP_BAD_LENGTH);
-    demand(osdp_panel_new(&asks, &config) == OSDP_OK && osdp_panel_add(&asks, 5, &entry) == OSDP_OK);
-    demand(osdp_panel_submit(&asks, 0, 0x64, NULL, 0) == OSDP_OK && osdp_panel_submit_text(&asks, 0, NULL, 0) == OSDP_BAD_TEXT);
+    demand(osdp_panel_new(&asks, &config) == OSDP_OK && osdp_panel_add(&asks, 5, 0, &entry) == OSDP_OK);
+    demand(gives_data(&asks, 0, 0x64, NULL, 0) == OSDP_OK && osdp_panel_submit_text(&asks, 0, NULL, 0, OSDP_NEVER, &order) == OSDP_BAD_TEXT);
     demand(osdp_panel_bytes(&asks, NULL, 0, 0) == OSDP_OK && osdp_panel_free(&asks) == OSDP_OK);
     demand(osdp_device_new(&told, &what, NULL, 0) == OSDP_OK && osdp_device_event_text(&told, NULL, 0) == OSDP_BAD_TEXT);
     demand(osdp_device_event(&told, 0x40, NULL, 0) == OSDP_NO_EVENT && osdp_device_set_inputs(&told, NULL, 0) == OSDP_OK);

@@ -1,5 +1,6 @@
 /* A panel and two readers, joined in memory: what each sends comes to the other, but one answer in five is lost, and one is cut by a silence. */
 #include "line.h"
+#include "panels.h"
 
 #include <inttypes.h>
 #include <stdarg.h>
@@ -14,6 +15,7 @@ struct record told[READERS];
 struct record done[READERS];
 uint64_t now;
 
+static uint64_t next_told[READERS]; /* no order of lower number is told any more */
 static uint32_t order_before[READERS];
 static uint32_t said_before[READERS];
 static struct osdp_burst stored[READERS]; /* the last answer of each that it may repeat */
@@ -33,6 +35,7 @@ void clear_line(void)
     memset(told, 0, sizeof told);
     memset(done, 0, sizeof done);
     memset(is_silent, 0, sizeof is_silent);
+    memset(next_told, 0, sizeof next_told);
     memset(order_before, 0, sizeof order_before);
     memset(said_before, 0, sizeof said_before);
     on_line = answers = 0;
@@ -75,10 +78,20 @@ static const struct {
     { "event", false, true }, { "answered", false, true }, { "unread", true, false }, { "lost", true, false },
 };
 
+/* A report about an order has its number: each has one of its own, and those of a device come in their order. Only an event has a moment, which has passed. */
+static void judge_number(const struct osdp_report *report)
+{
+    demand(report->numbered == report->command.present && report->too_late == 0);
+    demand(report->numbered ? report->number >= next_told[report->entry] : report->number == 0);
+    next_told[report->entry] = report->numbered ? report->number + 1 : next_told[report->entry];
+    demand(report->kind == OSDP_REPORT_EVENT ? 0 < report->since && report->since <= now : report->since == 0);
+}
+
 static void note_report(const struct osdp_report *report)
 {
     demand(report->kind <= OSDP_REPORT_LOST && report->entry < READERS);
     struct record *record = &told[report->entry];
+    judge_number(report);
     note(record, "%s", kinds[report->kind].name);
     if (report->kind == OSDP_REPORT_LOST || report->kind == OSDP_REPORT_UNREAD) {
         note(record, " %" PRIu32, report->detail);
@@ -249,7 +262,7 @@ void run(uint64_t end)
         now = on_line == 0 && due.moment > now ? due.moment : now;
         to_panel();
         take_reports();
-        demand(osdp_panel_tick(&panel, now, &burst) == OSDP_OK);
+        demand(ticks(&panel, now, &burst) == OSDP_OK);
         take_reports();
         to_readers(&burst);
         demand(osdp_panel_next_deadline(&panel, &due) == OSDP_OK);

@@ -6,6 +6,7 @@
 
 #include "demands.h"
 #include "osdp.h"
+#include "panels.h"
 
 #define AROUND 16
 #define WHAT { { 0x5C, 0xD1, 0x2E }, 1, 2, 5, 6, 7 }
@@ -71,7 +72,7 @@ static void cap(void)
 static bool waits(osdp_panel *panel, uint8_t code)
 {
     struct osdp_message *command = filled_message();
-    return osdp_panel_submit(panel, 0, code, NULL, 0) == OSDP_OK && osdp_panel_withdraw(panel, 0, command) == OSDP_OK && is(command, code, 0, "");
+    return gives_data(panel, 0, code, NULL, 0) == OSDP_OK && osdp_panel_withdraw(panel, 0, command) == OSDP_OK && is(command, code, 0, "");
 }
 
 static void lstat(osdp_panel *panel)
@@ -97,7 +98,7 @@ static void rstat(osdp_panel *panel)
 /* ID and CAP carry a byte: without it they are no commands. */
 static void asked(osdp_panel *panel)
 {
-    demand(osdp_panel_submit(panel, 0, OSDP_ID, NULL, 0) == OSDP_BAD_LENGTH && osdp_panel_submit(panel, 0, OSDP_CAP, NULL, 0) == OSDP_BAD_LENGTH);
+    demand(gives_data(panel, 0, OSDP_ID, NULL, 0) == OSDP_BAD_LENGTH && gives_data(panel, 0, OSDP_CAP, NULL, 0) == OSDP_BAD_LENGTH);
 }
 
 static void out(void)
@@ -445,7 +446,7 @@ int main(void)
     struct osdp_panel_config config;
     size_t entry;
     osdp_panel_defaults(&config);
-    demand(osdp_panel_new(&panel, &config) == OSDP_OK && osdp_panel_add(&panel, 5, &entry) == OSDP_OK);
+    demand(osdp_panel_new(&panel, &config) == OSDP_OK && osdp_panel_add(&panel, 5, 0, &entry) == OSDP_OK);
     for (size_t i = 0; i < sizeof patterns; i++) {
         pattern = patterns[i];
         id(), cap(), lstat(&panel), istat(&panel), ostat(&panel), rstat(&panel), asked(&panel);

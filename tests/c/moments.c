@@ -4,6 +4,7 @@
 
 #include "demands.h"
 #include "osdp.h"
+#include "panels.h"
 
 #define BEGIN UINT64_C(1000000000000) /* the first moment */
 #define DAY 86400000
@@ -16,7 +17,7 @@ static osdp_panel new_panel(uint32_t limit)
     osdp_panel_defaults(&config);
     demand(config.clock_limit == DAY);
     config.clock_limit = limit;
-    demand(osdp_panel_new(&panel, &config) == OSDP_OK && osdp_panel_add(&panel, 5, &entry) == OSDP_OK);
+    demand(osdp_panel_new(&panel, &config) == OSDP_OK && osdp_panel_add(&panel, 5, 0, &entry) == OSDP_OK);
     return panel;
 }
 
@@ -40,33 +41,40 @@ static uint64_t due(osdp_panel *panel)
 static void refuses(osdp_panel *panel, uint64_t now)
 {
     static struct osdp_burst burst;
+    uint32_t sends = 2;
     const uint8_t byte[] = { 0x53 };
     memset(&burst, pattern, sizeof burst);
     demand(osdp_panel_begin(panel, 0, now) == OSDP_MOMENT_TOO_FAR);
     demand(osdp_panel_bytes(panel, byte, 1, now) == OSDP_MOMENT_TOO_FAR);
     demand(osdp_panel_bytes(panel, NULL, 0, now) == OSDP_MOMENT_TOO_FAR);
     demand(osdp_panel_silence(panel, now) == OSDP_MOMENT_TOO_FAR);
-    demand(osdp_panel_tick(panel, now, &burst) == OSDP_MOMENT_TOO_FAR && is_pattern(&burst, sizeof burst));
+    demand(osdp_panel_tick(panel, now, &sends) == OSDP_MOMENT_TOO_FAR && sends == 2);
+    demand(osdp_panel_write(panel, now, &burst) == OSDP_MOMENT_TOO_FAR && is_pattern(&burst, sizeof burst));
 }
 
 /* A session that was begun goes on as if the wrong moments had not come. */
 static void panels(void)
 {
     static struct osdp_burst burst;
+    uint32_t sends = 0;
     osdp_panel panel = new_panel(1000);
     demand(osdp_panel_begin(&panel, 0, BEGIN) == OSDP_OK);
     refuses(&panel, BEGIN + 1001);
     refuses(&panel, UINT64_MAX);
     demand(due(&panel) == BEGIN + 400);
-    demand(osdp_panel_tick(&panel, BEGIN + 400, &burst) == OSDP_OK && burst.length > 0);
+    demand(osdp_panel_tick(&panel, BEGIN + 400, &sends) == OSDP_OK && sends == 1);
+    refuses(&panel, BEGIN + 1401);
+    /* the burst is still to go out then, once */
+    demand(osdp_panel_write(&panel, BEGIN + 400, &burst) == OSDP_OK && burst.length > 0);
+    demand(osdp_panel_write(&panel, BEGIN + 400, &burst) == OSDP_OK && burst.length == 0);
     /* an earlier moment is none that is refused, and moves nothing */
-    demand(osdp_panel_tick(&panel, 0, &burst) == OSDP_OK && burst.length == 0);
+    demand(ticks(&panel, 0, &burst) == OSDP_OK && burst.length == 0);
     refuses(&panel, BEGIN + 1401);
     demand(osdp_panel_silence(&panel, BEGIN + 1400) == OSDP_OK);
     /* a host that slept */
     refuses(&panel, BEGIN + 3 * DAY);
     demand(osdp_panel_set_moment(&panel, BEGIN + 3 * (uint64_t)DAY) == OSDP_OK);
-    demand(osdp_panel_tick(&panel, BEGIN + 3 * (uint64_t)DAY + 1000, &burst) == OSDP_OK);
+    demand(ticks(&panel, BEGIN + 3 * (uint64_t)DAY + 1000, &burst) == OSDP_OK);
     demand(osdp_panel_free(&panel) == OSDP_OK && osdp_panel_set_moment(&panel, 0) == OSDP_NO_MACHINE);
 }
 

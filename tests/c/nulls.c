@@ -14,7 +14,7 @@ static void made(void)
     struct osdp_panel_config config;
     size_t entry;
     osdp_panel_defaults(&config);
-    demand(osdp_panel_new(&panel, &config) == OSDP_OK && osdp_panel_add(&panel, 5, &entry) == OSDP_OK && entry == 0);
+    demand(osdp_panel_new(&panel, &config) == OSDP_OK && osdp_panel_add(&panel, 5, 0, &entry) == OSDP_OK && entry == 0);
     demand(osdp_device_new(&device, &reader, NULL, 3) == OSDP_BAD_LENGTH);
     demand(osdp_device_new(&device, &reader, NULL, 0) == OSDP_OK);
 }
@@ -28,13 +28,14 @@ static size_t commands(void)
 
 static void panel_calls(void)
 {
-    demand(osdp_panel_submit(&panel, 0, OSDP_MFG, NULL, 64) == OSDP_BAD_LENGTH);
-    demand(osdp_panel_submit(&panel, 0, OSDP_ID, NULL, 1) == OSDP_BAD_LENGTH);
-    demand(osdp_panel_submit_text(&panel, 0, NULL, 5) == OSDP_BAD_LENGTH);
+    uint64_t number = 7;
+    demand(osdp_panel_submit(&panel, 0, OSDP_MFG, NULL, 64, OSDP_NEVER, &number) == OSDP_BAD_LENGTH);
+    demand(osdp_panel_submit(&panel, 0, OSDP_ID, NULL, 1, OSDP_NEVER, &number) == OSDP_BAD_LENGTH);
+    demand(osdp_panel_submit_text(&panel, 0, NULL, 5, OSDP_NEVER, &number) == OSDP_BAD_LENGTH);
     demand(osdp_panel_bytes(&panel, NULL, 1, 0) == OSDP_BAD_LENGTH);
-    demand(commands() == 0);
-    demand(osdp_panel_submit(&panel, 0, OSDP_LSTAT, NULL, 0) == OSDP_OK && commands() == 1);
-    demand(osdp_panel_submit_text(&panel, 0, NULL, 0) == OSDP_BAD_TEXT);
+    demand(commands() == 0 && number == 7);
+    demand(osdp_panel_submit(&panel, 0, OSDP_LSTAT, NULL, 0, OSDP_NEVER, &number) == OSDP_OK && commands() == 1 && number == 0);
+    demand(osdp_panel_submit_text(&panel, 0, NULL, 0, OSDP_NEVER, &number) == OSDP_BAD_TEXT && number == 0);
     demand(osdp_panel_bytes(&panel, NULL, 0, 0) == OSDP_OK);
 }
 

@@ -11,6 +11,9 @@
 
 #include "counted.h"
 #include "line.h"
+#include "panels.h"
+
+#define PANEL_BYTES 5232 /* of a panel, where its bus has 5,160 of them */
 
 static size_t lacks; /* how often a call told that there is no memory */
 static size_t made;  /* how many blocks were asked for when the last machine was made */
@@ -31,7 +34,7 @@ static size_t counted(size_t bytes)
 
 static void submit(size_t entry, const char *text)
 {
-    demand(osdp_panel_submit_text(&panel, entry, text, strlen(text)) == OSDP_OK);
+    demand(gives(&panel, entry, text) == OSDP_OK);
 }
 
 /* A panel with room for four commands for each of its devices. */
@@ -40,7 +43,7 @@ static void new_panel(void)
     struct osdp_panel_config config;
     size_t entry = 99, before = bytes_given;
     osdp_panel_defaults(&config);
-    demand(osdp_panel_add(&panel, 5, &entry) == OSDP_NO_MACHINE && entry == 99);
+    demand(osdp_panel_add(&panel, 5, 0, &entry) == OSDP_NO_MACHINE && entry == 99);
     config.sends = 0;
     demand(osdp_panel_new(&panel, &config) == OSDP_PANEL_OUT_OF_RANGE);
     config.sends = 3;
@@ -51,23 +54,23 @@ static void new_panel(void)
         before = bytes_given;
         status = osdp_panel_new(&panel, &config);
     }
-    demand(status == OSDP_OK && bytes_given - before == counted(5160 + 16 + 1448 + 2 * 16 * 8)); /* the bus, its clock, the burst; two lists of sixteen */
+    demand(status == OSDP_OK && bytes_given - before == counted(PANEL_BYTES + 16 + 1448 + 2 * 16 * 8 + 16 * 40)); /* the panel, its clock, the burst; two lists of sixteen, and one for their orders */
     demand(osdp_panel_new(&panel, &config) == OSDP_IN_USE);
-    demand(osdp_panel_add(&panel, 127, &entry) == OSDP_PANEL_OUT_OF_RANGE);
+    demand(osdp_panel_add(&panel, 127, 0, &entry) == OSDP_PANEL_OUT_OF_RANGE);
 }
 
 static void add_device(size_t i)
 {
     uint32_t address = 5 + (uint32_t)i;
     size_t entry = 99, before = bytes_given;
-    osdp_status status = osdp_panel_add(&panel, address, &entry);
+    osdp_status status = osdp_panel_add(&panel, address, 0, &entry);
     if (is_lack(status)) {
         demand(entry == 99 && osdp_panel_begin(&panel, i, 0) == OSDP_NO_ENTRY);
         before = bytes_given;
-        status = osdp_panel_add(&panel, address, &entry);
+        status = osdp_panel_add(&panel, address, 0, &entry);
     }
-    demand(status == OSDP_OK && entry == i && bytes_given - before == counted(168 + 1456 + 5 * 1435));
-    demand(osdp_panel_add(&panel, address, &entry) == OSDP_ADDRESS_TAKEN && entry == i);
+    demand(status == OSDP_OK && entry == i && bytes_given - before == counted(168 + 1456 + 5 * (1435 + 8))); /* a last moment for each place too */
+    demand(osdp_panel_add(&panel, address, 0, &entry) == OSDP_ADDRESS_TAKEN && entry == i);
 }
 
 /* A reader with room for two events. */
@@ -112,14 +115,14 @@ static void new_machines(void)
 static void refusals(void)
 {
     const uint8_t out[] = { 0, 2, 0, 0 }, keys[] = { 0, 2, '4' };
-    demand(osdp_panel_submit(&panel, 0, 0x01, out, 4) == OSDP_UNKNOWN_CODE);
-    demand(osdp_panel_submit(&panel, 0, 0x68, out, 3) == OSDP_BAD_LENGTH);
-    demand(osdp_panel_submit(&panel, 7, 0x68, out, 4) == OSDP_NO_ENTRY);
-    demand(osdp_panel_submit(&panel, 0, 0x60, out, 0) == OSDP_POLL_SUBMITTED);
-    demand(osdp_panel_submit_text(&panel, 0, "OUT 0:2", 7) == OSDP_BAD_TEXT);
-    demand(osdp_panel_submit_text(&panel, 0, "COMSET 6 9600", 13) == OSDP_ADDRESS_TAKEN);
-    demand(osdp_panel_submit_text(&panel, 0, "COMSET 127 9600", 15) == OSDP_ADDRESS_OUT_OF_RANGE);
-    demand(osdp_panel_submit_text(&panel, 7, "COMSET 127 9600", 15) == OSDP_NO_ENTRY);
+    demand(gives_data(&panel, 0, 0x01, out, 4) == OSDP_UNKNOWN_CODE);
+    demand(gives_data(&panel, 0, 0x68, out, 3) == OSDP_BAD_LENGTH);
+    demand(gives_data(&panel, 7, 0x68, out, 4) == OSDP_NO_ENTRY);
+    demand(gives_data(&panel, 0, 0x60, out, 0) == OSDP_POLL_SUBMITTED);
+    demand(gives(&panel, 0, "OUT 0:2") == OSDP_BAD_TEXT);
+    demand(gives(&panel, 0, "COMSET 6 9600") == OSDP_ADDRESS_TAKEN);
+    demand(gives(&panel, 0, "COMSET 127 9600") == OSDP_ADDRESS_OUT_OF_RANGE);
+    demand(gives(&panel, 7, "COMSET 127 9600") == OSDP_NO_ENTRY);
     demand(osdp_panel_begin(&panel, 7, now) == OSDP_NO_ENTRY);
     demand(osdp_panel_retarget(&panel, 0, 6) == OSDP_ADDRESS_TAKEN);
     demand(osdp_panel_retarget(&panel, 0, 127) == OSDP_PANEL_OUT_OF_RANGE);
@@ -198,17 +201,17 @@ static void queue_events(void)
 static void settle(void)
 {
     const uint8_t out[] = { 0, 2, 0, 0 };
-    static struct osdp_burst burst;
+    uint32_t sends = 9;
     for (size_t i = 0; i < READERS; i++) {
         demand(osdp_panel_begin(&panel, i, now) == OSDP_OK);
         demand(osdp_panel_begin(&panel, i, now) == OSDP_NOT_CLOSED);
     }
-    demand(osdp_panel_tick(&panel, 399, &burst) == OSDP_OK && burst.length == 0);
-    demand(osdp_panel_submit(&panel, 0, 0x68, out, 4) == OSDP_OK);
+    demand(osdp_panel_tick(&panel, 399, &sends) == OSDP_OK && sends == 0);
+    demand(gives_data(&panel, 0, 0x68, out, 4) == OSDP_OK);
     submit(0, "ISTAT");
     submit(0, "OUT  9:2:0");
     submit(0, "LSTAT");
-    demand(osdp_panel_submit(&panel, 0, 0x68, out, 4) == OSDP_COMMANDS_FULL);
+    demand(gives_data(&panel, 0, 0x68, out, 4) == OSDP_COMMANDS_FULL);
     submit(1, "BUZ 0 2 5 5 1");
     submit(1, "CAP 0");
     submit(1, "COMSET 9 19200");
@@ -324,7 +327,7 @@ static void leave_waiting(void)
         submit(i, "BUZ 0 2 5 5 1");
     }
     demand(osdp_panel_begin(&panel, READERS, now) == OSDP_OK);
-    demand(osdp_panel_tick(&panel, now + 400, &burst) == OSDP_OK && burst.length == 9 && burst.bytes[1] == 5 + READERS);
+    demand(ticks(&panel, now + 400, &burst) == OSDP_OK && burst.length == 9 && burst.bytes[1] == 5 + READERS);
     for (int i = 0; i < READERS; i++) {
         demand(osdp_device_event_text(&readers[i], card, strlen(card)) == OSDP_OK);
         demand(osdp_device_event_text(&readers[i], card, strlen(card)) == OSDP_OK);

@@ -1,11 +1,12 @@
 /* A site (osdp_site.h) over a panel and a device of this library, which are joined in memory: what is refused; that states come once after each opening, the latest of
  * each, and in their order, also where the panel has room for one command; that a state which is longer than the panel's room keeps none waiting; that orders for a
- * time are not repeated; when sessions begin; that a turn which comes too late hands in no bytes, and lets sessions
- * end; and that a moment which lies too far ahead takes nothing back, and lets a device's old events go. */
+ * time are not repeated; when sessions begin; that after a turn which comes late no order goes out whose last moment has passed, and that a card tells when it was asked
+ * for; and that a moment which lies too far ahead takes nothing back. */
 #include <string.h>
 
 #include "demands.h"
 #include "osdp_site.h"
+#include "panels.h"
 
 static osdp_panel panel;
 static osdp_device device;
@@ -15,7 +16,8 @@ static bool is_there = true;
 static uint64_t now = 1000;
 static char taken[2048]; /* the texts of the orders that the device took */
 static char told[256];   /* each change of presence, with its moment */
-static unsigned events, losses; /* how many of these were reported */
+static unsigned events, losses, withheld, expired; /* how many of these were reported: of sessions those that were lost with an order, and for an order that was too old */
+static uint64_t asked_for;                         /* when the last event was asked for */
 static uint8_t answered[4096];
 static size_t length;
 
@@ -44,10 +46,22 @@ static void take_report(void *of, const struct osdp_report *report, bool has_cha
 {
     demand(of == entries);
     events += report->kind == OSDP_REPORT_EVENT;
+    asked_for = report->kind == OSDP_REPORT_EVENT ? report->since : asked_for;
     losses += report->kind == OSDP_REPORT_LOST && report->command.present;
+    withheld += report->too_late;
+    expired += report->kind == OSDP_REPORT_EXPIRED;
     if (has_changed) {
         demand(entries[report->entry].since == at);
         sprintf(told + strlen(told), "%s %u;", entries[report->entry].is_online ? "online" : "offline", (unsigned)at);
+    }
+}
+
+/* A turn of a panel, whose burst is written at once. It has no length where none is to go out. */
+static void turn(osdp_panel *its, const uint8_t *bytes, size_t count, uint64_t at, struct osdp_burst *burst)
+{
+    burst->length = 0;
+    if (osdp_site_turn(&site, its, bytes, count, at, take_report, entries)) {
+        demand(osdp_panel_write(its, at, burst) == OSDP_OK && burst->length > 0);
     }
 }
 
@@ -60,7 +74,7 @@ static void run(uint64_t until)
         size_t count = length;
         memcpy(bytes, answered, count);
         length = 0;
-        osdp_site_turn(&site, &panel, bytes, count, now, take_report, entries, &burst);
+        turn(&panel, bytes, count, now, &burst);
         if (is_there) {
             osdp_device_turn(&device, burst.bytes, burst.length, now, take_answer, answered);
         }
@@ -74,8 +88,8 @@ static osdp_site_status wants_text(const char *text)
     size_t entry;
     struct osdp_panel_config config;
     osdp_panel_defaults(&config);
-    demand(osdp_panel_new(&reads, &config) == OSDP_OK && osdp_panel_add(&reads, 1, &entry) == OSDP_OK);
-    demand(osdp_panel_submit_text(&reads, entry, text, strlen(text)) == OSDP_OK);
+    demand(osdp_panel_new(&reads, &config) == OSDP_OK && osdp_panel_add(&reads, 1, 0, &entry) == OSDP_OK);
+    demand(gives(&reads, entry, text) == OSDP_OK);
     demand(osdp_panel_withdraw(&reads, entry, &command) == OSDP_OK && command.present);
     demand(osdp_panel_free(&reads) == OSDP_OK);
     return osdp_site_wants(&site, 0, &command);
@@ -169,18 +183,19 @@ static void subjects(void)
 static void lives(void)
 {
     static struct osdp_message order;
+    uint64_t number = 9;
     demand(wants_text("LED 0:0:0:0:0:0:0:0:1:1:0:1:1") == OSDP_SITE_OK); /* red, which is wanted no more once green is */
     demand(wants_text("BUZ 0 1 0 0 0") == OSDP_SITE_OK);
     demand(wants_text("LED 0:0:0:0:0:0:0:0:1:1:0:2:2") == OSDP_SITE_OK);
     demand(wants_text("TEXT 0 1 0 1 1 4142") == OSDP_SITE_OK);
     demand(osdp_site_next_deadline(&site) == 1000 && osdp_site_is_due(&site, 0, 1000) && !osdp_site_is_due(&site, 0, 999));
     osdp_output_for(0, 50, &order);
-    demand(!osdp_site_order(&site, &panel, 0, &order)); /* it is offline still */
+    demand(!osdp_site_order(&site, &panel, 0, &order, OSDP_NEVER, &number) && number == 9); /* it is offline still */
     run(3000);
     demand(strcmp(taken, "BUZ 0 1 0 0 0;LED 0:0:0:0:0:0:0:0:1:1:0:2:2;TEXT 0 1 0 1 1 4142;") == 0);
     demand(osdp_site_is_refreshed(&site, 0) && osdp_site_next_deadline(&site) == UINT64_MAX && strcmp(told, "online 1401;") == 0);
     taken[0] = '\0';
-    demand(osdp_site_order(&site, &panel, 0, &order));
+    demand(osdp_site_order(&site, &panel, 0, &order, OSDP_NEVER, &number) && number == 3); /* three states have gone out */
     run(3500);
     demand(strcmp(taken, "OUT 0:5:50;") == 0);
     demand(wants_text("BUZ 0 2 5 5 0") == OSDP_SITE_OK && !osdp_site_is_refreshed(&site, 0));
@@ -200,7 +215,7 @@ static void comes_back(void)
         demand(osdp_panel_is_closed(&panel, 0, &closed) == OSDP_OK);
     }
     osdp_output_for(0, 50, &stale); /* ordered all the same: it is taken back before the next session */
-    demand(osdp_panel_submit(&panel, 0, stale.code, stale.data, stale.length) == OSDP_OK);
+    demand(gives_data(&panel, 0, stale.code, stale.data, stale.length) == OSDP_OK);
     demand(strncmp(told, "offline ", 8) == 0 && strchr(told, ';') == told + strlen(told) - 1); /* once, though sessions were lost again */
     demand(!entries[0].is_online && entries[0].since > 4000 && entries[0].since < 5000);
     is_there = true;
@@ -218,57 +233,42 @@ static void run_until_answered(uint8_t code)
     demand(length > 5 && answered[5] == code);
 }
 
-/* Where a turn comes later than it may, no card that has come is told, no order goes out, and the session is let end: the order that was under way is lost, and the one
- * that waited is taken back. One that is just not too late changes nothing. */
+/* Where a turn comes late, the order that was under way isn't sent again, and the one that waited expires. An answer that came meanwhile is read: its event tells when it
+ * was asked for. */
 static void stands_still(void)
 {
     static struct osdp_message order;
+    uint64_t first, second, asked;
     osdp_output_for(0, 50, &order);
-    demand(osdp_site_order(&site, &panel, 0, &order));
+    demand(osdp_site_order(&site, &panel, 0, &order, now + 2000, &first));
     is_there = false;
     run(now + 50); /* it has gone out, and nobody has heard it */
-    demand(osdp_site_order(&site, &panel, 0, &order));
+    demand(osdp_site_order(&site, &panel, 0, &order, now + 2000, &second) && second == first + 1);
     is_there = true;
     taken[0] = told[0] = '\0';
-    events = losses = 0;
-    now = site.due + OSDP_SITE_LATE + 1;
-    run(now + 1);
-    demand(entries[0].is_left && entries[0].is_online && !osdp_site_order(&site, &panel, 0, &order));
+    events = losses = withheld = expired = 0;
+    now += 5000;
     run(now + 5000);
-    demand(strstr(taken, "OUT") == NULL && losses == 1 && entries[0].is_online && !entries[0].is_left);
-    demand(strncmp(told, "offline ", 8) == 0 && strstr(told, "online ") != NULL && osdp_site_is_refreshed(&site, 0));
+    demand(strstr(taken, "OUT") == NULL && losses == 1 && withheld == 1 && expired == 1);
+    demand(strncmp(told, "offline ", 8) == 0 && strstr(told, "online ") != NULL && entries[0].is_online && osdp_site_is_refreshed(&site, 0));
+    told[0] = '\0';
     demand(osdp_device_event_text(&device, "KEYPAD 0 31", 11) == OSDP_OK);
     run_until_answered(OSDP_KEYPAD);
-    now = site.due + OSDP_SITE_LATE; /* as late as it may be */
+    asked = now - 1; /* each turn takes a millisecond */
+    now += 60000;
     run(now + 1);
-    demand(events == 1 && !entries[0].is_left);
-    demand(osdp_device_event_text(&device, "KEYPAD 0 32", 11) == OSDP_OK);
-    run_until_answered(OSDP_KEYPAD);
-    now = site.due + OSDP_SITE_LATE + 1;
+    demand(events == 1 && asked_for == asked);
+    run_until_answered(OSDP_ACK);
+    now += 25 * 3600000ull; /* further than a moment may lie after the one before */
     run(now + 300);
-    demand(events == 1 && entries[0].is_left);
-    run(now + 5000);
-    demand(events == 2); /* its device has told it again */
-    run_until_answered(OSDP_ACK);
-    site.late = UINT32_MAX; /* a moment that is too far ahead is too late whatever the setting is */
-    now += 25 * 3600000ull;
-    run(now + 1);
-    demand(entries[0].is_left);
-    run(now + 5000);
-    site.late = 100; /* another setting */
-    run_until_answered(OSDP_ACK);
-    now = site.due + 101;
-    run(now + 1);
-    demand(entries[0].is_left);
-    site.late = OSDP_SITE_LATE;
-    run(now + 5000);
-    demand(entries[0].is_online && !entries[0].is_left);
-    osdp_site_leave(&site);
-    demand(entries[0].is_left && wants_text("BUZ 0 2 1 1 0") == OSDP_SITE_OK && !osdp_site_order(&site, &panel, 0, &order));
-    run(now + 1);
-    demand(!osdp_site_is_refreshed(&site, 0)); /* a state waits for the next session too */
-    run(now + 5000);
-    demand(entries[0].is_online && !entries[0].is_left && losses == 1 && osdp_site_is_refreshed(&site, 0));
+    demand(events == 1 && told[0] == '\0' && entries[0].is_online); /* its session has gone on */
+    taken[0] = '\0';
+    demand(osdp_site_order(&site, &panel, 0, &order, now - 1, &second)); /* too old already */
+    demand(osdp_site_order(&site, &panel, 0, &order, now, &second) == false); /* there is room for one */
+    run(now + 300);
+    demand(taken[0] == '\0' && expired == 2 && losses == 1 && osdp_site_order(&site, &panel, 0, &order, now + 100, &second));
+    run(now + 300);
+    demand(strcmp(taken, "OUT 0:5:50;") == 0 && expired == 2);
 }
 
 /* After the end of a session the next is due after the pause, at each entry by itself. */
@@ -313,7 +313,7 @@ static void make_brisk(osdp_panel *brisk, uint32_t capacity)
     config.reply_wait = 200;
     config.sends = 1;
     config.capacity = capacity;
-    demand(osdp_panel_new(brisk, &config) == OSDP_OK && osdp_panel_add(brisk, 5, &entry) == OSDP_OK);
+    demand(osdp_panel_new(brisk, &config) == OSDP_OK && osdp_panel_add(brisk, 5, 0, &entry) == OSDP_OK);
 }
 
 /* A state that waits for room and is wanted anew brings none again that was submitted. */
@@ -338,7 +338,8 @@ static void is_submitted_once(void)
     demand(one[0].done == 1 && osdp_panel_waiting(&brisk, 0, &waiting) == OSDP_OK && waiting == 1);
     osdp_sound(false, &command);
     demand(osdp_site_wants(&its, 0, &command) == OSDP_SITE_OK && one[0].count == 2 && one[0].done == 1);
-    demand(!osdp_site_order(&its, &brisk, 1, &command)); /* the site has one entry */
+    uint64_t number;
+    demand(!osdp_site_order(&its, &brisk, 1, &command, OSDP_NEVER, &number)); /* the site has one entry */
     demand(osdp_panel_free(&brisk) == OSDP_OK);
 }
 
@@ -351,7 +352,7 @@ static void waits(void)
     osdp_site its;
     size_t entry;
     make_brisk(&brisk, 1);
-    demand(osdp_panel_add(&brisk, 6, &entry) == OSDP_OK && entry == 1);
+    demand(osdp_panel_add(&brisk, 6, 0, &entry) == OSDP_OK && entry == 1);
     osdp_site_new(&its, two, 2, OSDP_SITE_ANY_LENGTH, 1000);
     its.pause = 300;
     demand(osdp_site_wait(&its, &brisk, 900, 5000) == 100 && osdp_site_wait(&its, &brisk, 1000, 5000) == 0 && osdp_site_wait(&its, &brisk, 1001, 5000) == 0);
@@ -364,8 +365,8 @@ static void waits(void)
     demand(osdp_panel_free(&brisk) == OSDP_OK);
 }
 
-/* A turn sends what its own bytes ask for, and takes what its own tick has reported; without a panel it gives no packet. One after a long sleep leaves its bytes, and
- * takes what its own tick has reported all the same. */
+/* A turn takes what its bytes have reported, and the next one sends what is wanted then. What a tick has reported the next turn takes. So it is also after a long sleep, whose
+ * moment lies too far ahead. Without a panel nothing is to go out. */
 static void turns(void)
 {
     static struct osdp_burst burst;
@@ -376,41 +377,25 @@ static void turns(void)
         make_brisk(&brisk, 1);
         osdp_site_new(&site, entries, 1, OSDP_SITE_ANY_LENGTH, 1000);
         demand(wants_text("BUZ 0 1 5 5 0") == OSDP_SITE_OK);
-        osdp_site_turn(&site, &brisk, NULL, 0, 1000, take_report, entries, &burst);
+        turn(&brisk, NULL, 0, 1000, &burst);
         demand(burst.length == 0 && !osdp_site_is_due(&site, 0, UINT64_MAX)); /* its session has begun */
-        osdp_site_turn(&site, &brisk, NULL, 0, hears ? 1400 : late, take_report, entries, &burst);
+        turn(&brisk, NULL, 0, hears ? 1400 : late, &burst);
         demand(burst.length > 5 && burst.bytes[1] == 5 && burst.bytes[5] == OSDP_ID);
-        if (hears == 1) {
-            osdp_site_turn(&site, &brisk, identifies, sizeof identifies, 1599, take_report, entries, &burst);
-            demand(entries[0].is_online && entries[0].since == 1599 && burst.length > 5 && burst.bytes[5] == OSDP_BUZ);
-        } else if (hears == 2) {
-            osdp_site_turn(&site, &brisk, identifies, sizeof identifies, late, take_report, entries, &burst);
-            demand(!entries[0].is_online && burst.length == 0 && entries[0].begins == late + 1000);
+        if (hears == 0) {
+            turn(&brisk, NULL, 0, late + 200, &burst);
+            turn(&brisk, NULL, 0, late + 201, &burst);
+            demand(burst.length == 0 && entries[0].begins == late + 1201);
         } else {
-            osdp_site_turn(&site, &brisk, NULL, 0, late + 200, take_report, entries, &burst);
-            demand(entries[0].begins == late + 1200);
+            uint64_t at = hears == 1 ? 1599 : late;
+            turn(&brisk, identifies, sizeof identifies, at, &burst);
+            demand(burst.length == 0 && entries[0].is_online && entries[0].since == at && osdp_site_wait(&site, &brisk, at, 5000) == 0);
+            turn(&brisk, NULL, 0, at, &burst);
+            demand(burst.length > 5 && burst.bytes[5] == OSDP_BUZ);
         }
         demand(osdp_panel_free(&brisk) == OSDP_OK);
-        burst.length = 5;
-        osdp_site_turn(&site, &brisk, NULL, 0, late + 200, take_report, entries, &burst);
+        turn(&brisk, NULL, 0, late + 200, &burst);
         demand(burst.length == 0);
     }
-}
-
-/* A device reads the packet that stands in a run after noise once that run is over, stops before its command, and answers it within the same turn. */
-static void answers_after_a_gap(void)
-{
-    static const uint8_t noise[] = { 0x53, 5, 40, 0, 0, 0x53, 5, 11, 0, 0, OSDP_OUT, 0, 2, 0, 0, 0x33 };
-    const struct osdp_device_config reader = { .address = 5, .capacity = 2, .gap = 20 };
-    const uint8_t off[1] = { 0 };
-    osdp_device hearing = { 0 };
-    demand(osdp_device_new(&hearing, &reader, NULL, 0) == OSDP_OK && osdp_device_set_outputs(&hearing, off, 1) == OSDP_OK);
-    length = 0;
-    osdp_device_turn(&hearing, noise, sizeof noise, 1000, take_answer, answered);
-    demand(length == 0);
-    osdp_device_turn(&hearing, noise, 0, 1100, take_answer, answered);
-    demand(length > 5 && answered[5] == OSDP_ACK);
-    demand(osdp_device_free(&hearing) == OSDP_OK);
 }
 
 /* At a moment that lies too far ahead nothing is taken back, and the session stays due: it begins once the clock is right. */
@@ -424,39 +409,17 @@ static void keeps_what_waits(void)
     uint32_t closed;
     struct osdp_panel_config config;
     osdp_panel_defaults(&config); /* a moment may lie a day after the one before */
-    demand(osdp_panel_new(&far, &config) == OSDP_OK && osdp_panel_add(&far, 5, &entry) == OSDP_OK);
-    demand(osdp_panel_bytes(&far, NULL, 0, 1000) == OSDP_OK && osdp_panel_submit_text(&far, entry, "LSTAT", 5) == OSDP_OK);
+    demand(osdp_panel_new(&far, &config) == OSDP_OK && osdp_panel_add(&far, 5, 0, &entry) == OSDP_OK);
+    demand(osdp_panel_bytes(&far, NULL, 0, 1000) == OSDP_OK && gives(&far, entry, "LSTAT") == OSDP_OK);
     osdp_site_new(&its, one, 1, OSDP_SITE_ANY_LENGTH, 1000);
     osdp_site_act(&its, &far, 1000 + 2 * 86400000ull);
     demand(osdp_site_is_due(&its, 0, 1000) && osdp_panel_is_closed(&far, entry, &closed) == OSDP_OK && closed == 1);
     demand(osdp_panel_withdraw(&far, entry, &command) == OSDP_OK && command.present);
-    demand(osdp_panel_submit_text(&far, entry, "LSTAT", 5) == OSDP_OK && osdp_panel_submit_text(&far, entry, "ISTAT", 5) == OSDP_OK);
+    demand(gives(&far, entry, "LSTAT") == OSDP_OK && gives(&far, entry, "ISTAT") == OSDP_OK);
     osdp_site_act(&its, &far, 1001);
     demand(osdp_site_next_deadline(&its) == UINT64_MAX && osdp_panel_is_closed(&far, entry, &closed) == OSDP_OK && closed == 0);
     demand(osdp_panel_waiting(&far, entry, &waiting) == OSDP_OK && waiting == 0);
     demand(osdp_panel_free(&far) == OSDP_OK);
-}
-
-/* After a moment that lies too far ahead an event that has become too old leaves before a panel is answered, which would be told it. */
-static void lets_go(void)
-{
-    static struct osdp_message event;
-    static const uint8_t asks[] = { 0x53, 5, 8, 0, 0, OSDP_ID, 0, 0x3F }; /* a panel begins anew */
-    const struct osdp_device_config reader = { .address = 5, .capacity = 2, .gap = 20 };
-    const uint64_t late = 1000 + 2 * 86400000ull;
-    osdp_device sleeper = { 0 };
-    uint32_t expired;
-    demand(osdp_device_new(&sleeper, &reader, NULL, 0) == OSDP_OK);
-    osdp_device_turn(&sleeper, asks, 0, 1000, take_answer, answered);
-    demand(osdp_device_event_text(&sleeper, "KEYPAD 0 31", 11) == OSDP_OK);
-    length = 0;
-    demand(osdp_device_expire_event(&sleeper, late, 30000, &expired, &event) == OSDP_MOMENT_TOO_FAR);
-    osdp_device_turn(&sleeper, asks, sizeof asks, late, take_answer, answered);
-    demand(length == 0);
-    demand(osdp_device_expire_event(&sleeper, late, 30000, &expired, &event) == OSDP_OK && expired == OSDP_EXPIRED_WITHDRAWN);
-    osdp_device_turn(&sleeper, asks, sizeof asks, late, take_answer, answered);
-    demand(length > 5 && answered[5] == OSDP_PDID);
-    demand(osdp_device_free(&sleeper) == OSDP_OK);
 }
 
 /* Both ends, and a site. The panel has room for one command, of so many bytes. */
@@ -469,7 +432,7 @@ static void make(size_t bytes)
     osdp_panel_defaults(&config);
     config.capacity = 1; /* so the queue is full after the first state */
     demand((bytes == OSDP_SITE_ANY_LENGTH ? osdp_panel_new(&panel, &config) : osdp_panel_new_with_room(&panel, &config, bytes)) == OSDP_OK);
-    demand(osdp_panel_add(&panel, 5, &entry) == OSDP_OK);
+    demand(osdp_panel_add(&panel, 5, 0, &entry) == OSDP_OK);
     demand(osdp_device_new(&device, &reader, NULL, 0) == OSDP_OK && osdp_device_set_outputs(&device, off, 1) == OSDP_OK);
     osdp_site_new(&site, entries, 1, bytes, now);
     length = 0;
@@ -509,9 +472,7 @@ int main(void)
     is_submitted_once();
     waits();
     turns();
-    answers_after_a_gap();
     keeps_what_waits();
-    lets_go();
     unmake();
     lengths();
     return 0;

@@ -231,7 +231,13 @@ static void writes_ledger(const char *path)
     demand(keep_stands(&stand, 1), "the device isn't kept");
     open_ledger(5, 0);
     end_turn();
-    demand(note_order("OUT 0:5:30", 5000) == 1 && note_order("OUT 0:5:31", 5000) == 2 && note_order("OUT 0:5:32", 5000) == 3, "the numbers don't go on");
+    demand(next_order(5) == 1, "the first order has another number");
+    note_order(1, "OUT 0:5:30", 5000);
+    note_order(2, "OUT 0:5:31", 5000);
+    note_order(3, "OUT 0:5:32", 5000);
+    note_order(4, "OUT 0:5:33", 5000);
+    drop_order(4);
+    demand(next_order(5) == 4 && next_order(6) == 1, "the numbers don't go on, or another device has them");
     end_turn();
     begin_turn();
     note_end(1, "settled", "ACK");
@@ -258,7 +264,8 @@ static void reads_ledger(const char *path)
     heard_all();
     demand(number_in_store(0, "SELECT count(*) FROM orders WHERE state = 'doubt'", "") == 0, "what is in doubt is noted before its user has heard of it");
     begin_turn();
-    demand(note_order("OUT 0:5:33", 5000) == 4 && !any_doubt(), "the numbers don't go on over a start");
+    demand(next_order(5) == 4 && !any_doubt(), "the numbers don't go on over a start");
+    note_order(4, "OUT 0:5:33", 5000);
     end_turn();
     demand(number_in_store(0, "SELECT count(*) FROM orders WHERE state = 'doubt' AND told = 1", "") == 1, "what is in doubt isn't noted");
 }
@@ -271,7 +278,8 @@ static void retains(const char *path)
     end_turn();
     for (int i = 0; i < 20; i++) {
         begin_turn();
-        note_end(note_order("OUT 0:5:30", 5000), "settled", "ACK");
+        note_order(next_order(5), "OUT 0:5:30", 5000);
+        note_end(next_order(5) - 1, "settled", "ACK");
         note_event("RAW 0 0 26 12345640", false);
         say("told\n");
         end_turn();

@@ -16,7 +16,7 @@ int main(void)
         { OSDP_MOMENT_TOO_FAR, "too far" }, { OSDP_UNKNOWN_CODE, "table" }, { OSDP_BAD_LENGTH, "allowed" }, { OSDP_BAD_COUNT, "disagrees" },
         { OSDP_PANEL_NO_MEMORY, "memory" }, { OSDP_TOO_MANY, "sixteen" }, { OSDP_ADDRESS_TAKEN, "is taken" }, { OSDP_NO_ENTRY, "no such device" },
         { OSDP_PANEL_OUT_OF_RANGE, "range" }, { OSDP_ADDRESS_OUT_OF_RANGE, "126" }, { OSDP_COMMANDS_FULL, "no more commands" }, { OSDP_POLL_SUBMITTED, "POLL" },
-        { OSDP_NOT_CLOSED, "session" }, { OSDP_EVENTS_FULL, "events wait" }, { OSDP_MONITOR_TOO_LONG, "counted" }, { OSDP_MONITOR_STOPPED, "stopped" },
+        { OSDP_NUMBERS_USED_UP, "number" }, { OSDP_NOT_CLOSED, "session" }, { OSDP_EVENTS_FULL, "events wait" }, { OSDP_MONITOR_TOO_LONG, "counted" }, { OSDP_MONITOR_STOPPED, "stopped" },
     };
     size_t count = sizeof each / sizeof each[0];
     for (size_t i = 0; i < count; i++) {
@@ -43,7 +43,7 @@ int main(void)
         { "osdp_message", 1436 }, { "osdp_burst", 1444 }, { "osdp_raw", 1434 }, { "osdp_keypad", 257 }, { "osdp_formatted", 258 }, { "osdp_local_state", 2 },
         { "osdp_states", 1434 }, { "osdp_product", 8 }, { "osdp_pd_id", 12 }, { "osdp_capability", 3 }, { "osdp_communication", 8 }, { "osdp_maker", 1434 },
         { "osdp_nak", 1434 }, { "osdp_output", 4 }, { "osdp_led_state", 5 }, { "osdp_led", 14 }, { "osdp_buzzer", 5 }, { "osdp_text", 261 }, { "osdp_panel", 16 },
-        { "osdp_panel_config", 40 }, { "osdp_moment", 16 }, { "osdp_report", 2888 }, { "osdp_device", 16 }, { "osdp_device_config", 28 },
+        { "osdp_panel_config", 40 }, { "osdp_moment", 16 }, { "osdp_report", 2912 }, { "osdp_device", 16 }, { "osdp_device_config", 28 },
         { "osdp_answer", 2900 }, { "osdp_monitor", 16 }, { "osdp_block", 0 }, { "osdp_repor", 0 }, { "osdp_reports", 0 }, { "", 0 }
     };
     for (size_t at = 0; at < sizeof sizes / sizeof sizes[0]; at++) {

@@ -1,5 +1,5 @@
-/* A session without a C library, from one seed: a panel and two devices on a line that loses 5% of all bursts, damages 5% and brings 4% twice. There are orders
- * and cards, each device starts anew now and then, the panel too, and addresses are set by COMSET. A monitor listens, and another one now and then takes its
+/* A session without a C library, from one seed: a panel and two devices on a line that loses 5% of all bursts, damages 5% and brings 4% twice. There are orders,
+ * of which some may soon be too late, and cards, each device starts anew now and then, the panel too, and addresses are set by COMSET. A monitor listens, and another one now and then takes its
  * place. All that either end and the monitor say, tell and do goes into one number.
  * So two builds of the calls that differ in one answer print different lines. */
 #include "osdp_layout.h"
@@ -16,7 +16,7 @@ static osdp_device devices[DEVICES];
 static osdp_monitor monitor;
 static uint32_t addresses[DEVICES], waits[DEVICES];
 static uint64_t now, seed = 0x9E3779B97F4A7C15u, hash = 0xCBF29CE484222325u;
-static uint32_t opened, settled, moved, told, lost, orders, sent, restarts, refused, heard;
+static uint32_t opened, settled, moved, told, lost, expired, orders, sent, restarts, refused, heard;
 
 /* The next number of the seed, below a bound. */
 static uint32_t chance(uint32_t below)
@@ -75,7 +75,7 @@ static void begin_panel(void)
     config.check = chance(2);
     (void)is_done(osdp_panel_new(&panel, &config));
     for (int i = 0; i < DEVICES; i++) {
-        (void)is_done(osdp_panel_add(&panel, addresses[i], &entry));
+        (void)is_done(osdp_panel_add(&panel, addresses[i], chance(1000), &entry));
         waits[i] = 0;
     }
 }
@@ -141,6 +141,10 @@ static void take_reports(void)
     static struct osdp_report report;
     while (osdp_panel_next_report(&panel, &report) == OSDP_OK && report.kind != OSDP_REPORT_NONE) {
         hash_number(report.entry);
+        hash_number(report.number);
+        hash_number(report.since);
+        hash_number(report.numbered);
+        hash_number(report.too_late);
         hash_number(report.kind);
         hash_number(report.detail);
         hash_message(&report.command);
@@ -150,6 +154,7 @@ static void take_reports(void)
         moved += report.kind == OSDP_REPORT_MOVED;
         told += report.kind == OSDP_REPORT_EVENT;
         lost += report.kind == OSDP_REPORT_LOST;
+        expired += report.kind == OSDP_REPORT_EXPIRED;
     }
 }
 
@@ -214,15 +219,17 @@ static void order(int i)
     static const char *const texts[] = { "OUT 0:5:30", "LSTAT", "OSTAT", "LED 0:0:2:1:0:2:0:50:1:1:0:1:0", "BUZ 0:2:5:5:3", "TEXT 0 1 0 1 1 48656C6C6F", "ISTAT" };
     static struct osdp_message command;
     const char *text = texts[chance(sizeof texts / sizeof texts[0])];
+    uint64_t number = 0, until = chance(4) == 0 ? now + chance(400) : OSDP_NEVER;
     uint32_t length = 0;
     while (text[length] != 0) {
         length++;
     }
     if (chance(12) != 0) {
-        (void)is_done(osdp_panel_submit_text(&panel, (osdp_size)i, text, length));
+        (void)is_done(osdp_panel_submit_text(&panel, (osdp_size)i, text, length, until, &number));
     } else if (is_done(osdp_comset(1 + chance(100), 9600, &command))) {
-        (void)is_done(osdp_panel_submit(&panel, (osdp_size)i, command.code, command.data, command.length));
+        (void)is_done(osdp_panel_submit(&panel, (osdp_size)i, command.code, command.data, command.length, until, &number));
     }
+    hash_number(number);
 }
 
 static void read_card(int i)
@@ -267,7 +274,7 @@ static void step(void)
 {
     static struct osdp_burst burst;
     static struct osdp_message event;
-    uint32_t expired = 0;
+    uint32_t gone = 0, sends = 0;
     int i = (int)chance(DEVICES);
     now += 5 + chance(40);
     restart();
@@ -279,10 +286,10 @@ static void step(void)
         read_card(i);
     }
     arrive();
-    if (is_done(osdp_device_expire_event(&devices[i], now, 5000, &expired, &event))) {
-        hash_number(expired);
+    if (is_done(osdp_device_expire_event(&devices[i], now, 5000, &gone, &event))) {
+        hash_number(gone);
     }
-    if (is_done(osdp_panel_tick(&panel, now, &burst)) && burst.length > 0) {
+    if (is_done(osdp_panel_tick(&panel, now, &sends)) && sends != 0 && is_done(osdp_panel_write(&panel, now + chance(3), &burst)) && burst.length > 0) {
         carry(&to_devices, &burst);
     }
     take_reports();
@@ -326,6 +333,7 @@ void session(void)
     tell(" moved ", moved);
     tell(" told ", told);
     tell(" lost ", lost);
+    tell(" expired ", expired);
     tell(" orders ", orders);
     tell(" sent ", sent);
     tell(" restarts ", restarts);

@@ -42,7 +42,7 @@ def trial(command):
         raise Bad("may is a list")
     for each in may:
         name, _, number = each.partition(":")
-        if name not in ALLOWS or (name == "out") != bool(number) or (number and not (number.isascii() and number.isdecimal() and len(number) < 4 and int(number) < 256)):
+        if name not in ALLOWS or (name in ("out", "relay")) != bool(number) or (number and not (number.isascii() and number.isdecimal() and len(number) < 4 and int(number) < 256)):
             raise Bad(f"may has {', '.join(ALLOWS)}")
     return {"of": one_of(command, "of", ("device", "panel")), "address": whole(command, "address", 0, 126), "rate": one_of(command, "rate", RATES), "check": one_of(command, "check", CHECKS), "may": may}
 

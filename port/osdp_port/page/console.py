@@ -50,11 +50,7 @@ class PageConsole:
         """The orders that go out now."""
         return self.desk.lines() if self.desk else []
 
-    def all_lines(self):
-        """What waits after the program stood still: none of it goes out."""
-        if self.desk:
-            self.desk.takes_back_all("the program stood still")
-        return []
+    all_lines = lines  # also after the program stood still: an order that has grown too old expires
 
     def hands(self, end, data):
         """Hands data to a program beside."""

@@ -13,6 +13,7 @@ import time
 import tty
 from collections import deque
 
+from ..console import Typed
 from ..program import Lines
 from ..reader import Reader
 from ..serial_port import RATES
@@ -60,7 +61,7 @@ class Placed:
         self.does(f"inputs {''.join(f'{each:02X}' for each in self.inputs)}", f"local {self.tamper} 0", "readers 00")
 
     def does(self, *lines):
-        self.machine.turn(b"", lines)
+        self.machine.turn(b"", [Typed(line, moment()) for line in lines])
 
     def power(self, is_on):
         if is_on and not self.is_on:

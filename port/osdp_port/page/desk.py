@@ -1,18 +1,22 @@
 """Where the orders of pages wait, and what becomes of each.
 
-One order of a device at a time is handed to the panel. So one that waits here can be taken back, and one that has waited too long isn't sent any more. What the panel
-tells of the order that it has is its end."""
+One order of a device at a time is handed to the panel, so one that waits here can be taken back. What the panel tells of the order that it has is its end, also where it has
+grown too old: then the panel tells that it has expired."""
 import time
 from collections import deque
 
-from ..reports import REASONS
+from ..console import Typed
+from ..reports import REASONS, without_number
+from ..turns import moment
 
-EXPIRES = 5.0  # seconds after which an order that waits is too old to go out
 LOOKS = 10.0  # seconds between two looks at what a device tells only if it is asked
 MOST = 16  # orders that wait for one device
 ASKS = {"id": "ID 0", "capabilities": "CAP 0", "tamper": "LSTAT", "inputs": "ISTAT", "outputs": "OSTAT", "readers": "RSTAT"}
 CODES = {"ID": 0x61, "CAP": 0x62, "LSTAT": 0x64, "ISTAT": 0x65, "OSTAT": 0x66, "RSTAT": 0x67, "OUT": 0x68, "LED": 0x69, "BUZ": 0x6A, "TEXT": 0x6B}
 ENDS = ("answered", "unread", "expired", "in doubt", "taken back", "refused")
+WHY = {"expired": ("expired", "it grew too old before it could go out, and it was never sent"), "withdrawn": ("taken back", "the session ended"),
+       "unread": ("unread", "its answer can't be read: it may be done or not")}
+WITHHELD = "no answer came, and it grew too old to be sent again: it may be done or not"
 
 
 class Bad(Exception):
@@ -47,11 +51,11 @@ def text_of(order):
 
 
 class Order:
-    """An order: its number, its device, its text, since when it waits, and whether the page itself gave it, to know what the device is."""
+    """An order: its number on the page, its device, its text, the moment at which it was given, and whether the page itself gave it, to know what the device is."""
 
-    def __init__(self, number, address, text, is_own=False):
-        self.number, self.address, self.text, self.is_own = number, address, text, is_own
-        self.since, self.state = time.monotonic(), None
+    def __init__(self, number, address, text, since, is_own=False):
+        self.number, self.address, self.text, self.since, self.is_own = number, address, text, since, is_own
+        self.state = self.told_as = None  # `told_as` is the number by which the panel tells of it
 
     @property
     def code(self):
@@ -71,9 +75,9 @@ class Desk:
 
     # from the pages, in their thread
 
-    def gives(self, number, address, order):
-        """A page gives an order."""
-        self.given.append(("give", number, address, order))
+    def gives(self, number, address, order, since):
+        """A page gives an order, at a moment."""
+        self.given.append(("give", number, address, (order, since)))
 
     def takes_back(self, number=None):
         """A page takes an order back that waits; all of them, where no number is said, since no page is there any more."""
@@ -89,10 +93,10 @@ class Desk:
     def device(self, address):
         return next((each for each in self.panel.devices if each.address == address), None)
 
-    def takes(self, number, address, words):
+    def takes(self, number, address, words, since):
         """Puts an order where it waits, or refuses it."""
         try:
-            order = Order(number, address, text_of(words))
+            order = Order(number, address, text_of(words), since)
         except Bad as bad:
             self.tells("order", number=number, address=address, text="", state="refused", why=str(bad))
             return
@@ -120,28 +124,22 @@ class Desk:
             while orders and address in (None, at):
                 self.becomes(orders.popleft(), "taken back", why)
 
-    def expires(self, now):
-        for orders in self.waiting.values():
-            while orders and now >= orders[0].since + EXPIRES:
-                self.becomes(orders.popleft(), "expired", f"it waited {EXPIRES:.0f} s")
-
     def lines(self):
         """The orders that go to the panel now, as it takes them."""
         self.looks()
         while self.given:
             what, number, address, order = self.given.popleft()
             if what == "give":
-                self.takes(number, address, order)
+                self.takes(number, address, *order)
             else:
                 self.drop(number)
         now = time.monotonic()
-        self.expires(now)
         found = []
         for device in self.panel.devices:
             order = self.next_of(device, now)
             if order:
                 self.current[device.address] = order
-                found.append(f"{order.address} {order.text}")
+                found.append(Typed(f"{order.address} {order.text}", order.since))
         return found
 
     def next_of(self, device, now):
@@ -156,11 +154,11 @@ class Desk:
         again = self.again.get(device.address)
         if again and now >= again[0]:
             again.pop(0)
-            return Order(0, device.address, "OSTAT", True)
+            return Order(0, device.address, "OSTAT", moment(), True)
         if now >= self.looks_at.get(device.address, 0):
             asked = self.asked.setdefault(device.address, deque(("capabilities", "tamper", "inputs", "outputs", "readers")))
             if asked:
-                return Order(0, device.address, ASKS[asked.popleft()], True)
+                return Order(0, device.address, ASKS[asked.popleft()], moment(), True)
             self.looks_at[device.address] = now + LOOKS
             self.asked[device.address] = deque(("tamper", "inputs", "outputs"))
         return None
@@ -176,32 +174,41 @@ class Desk:
 
     def heard(self, line):
         """The panel has told something."""
-        words = line.split()
+        words, number = without_number(line), int(line.split()[1]) if line.startswith("order ") else None
         if words[:2] == ["not", "taken"]:
-            self.ends(words[2:3], "refused", line.partition(": ")[2])
-        elif words[:1] == ["settled"]:
-            reply = line.partition(" = ")[2].split()
-            reason = int(reply[1]) if reply[:1] == ["NAK"] else 0
-            self.ends(words[1:2], *("refused", REASONS[reason if reason < len(REASONS) else 0]) if reply[:1] == ["NAK"] else ("answered", " ".join(reply)))
-        elif words[:1] == ["unread"] and len(words) > 4:
-            self.ends(words[1:2], "unread", "its answer can't be read: it may be done or not")
-        elif words[:1] == ["withdrawn"]:
-            self.ends(words[1:2], "taken back", "the session ended")
-        elif words[:1] == ["lost"]:
-            if len(words) > 3:
-                self.ends(words[1:2], "in doubt", "no answer came: it may be done or not")
+            order = self.current.get(int(words[2])) if words[2:3] and words[2].isdigit() else None
+            if order and order.told_as is None:
+                self.ends(order, "refused", line.partition(": ")[2])
+        elif number is not None:
+            self.heard_of(number, words, line)
+        if words[:1] == ["lost"]:
             self.is_lost(int(words[1]))
         elif words[:1] in (["opened"], ["online"]):
             self.looks_at[int(words[1])] = 0
             self.asked.pop(int(words[1]), None)
 
-    def ends(self, address, state, why):
+    def heard_of(self, number, words, line):
+        """The panel has told something of an order."""
+        order, name = self.current.get(int(words[1])), words[0]
+        if order and name == "waits" and order.text == " ".join(words[2:]):
+            order.told_as = number
+        if order is None or order.told_as != number:
+            return
+        if name == "settled":
+            reply = line.partition(" = ")[2].split()
+            reason = int(reply[1]) if reply[:1] == ["NAK"] else 0
+            self.ends(order, *("refused", REASONS[reason if reason < len(REASONS) else 0]) if reply[:1] == ["NAK"] else ("answered", " ".join(reply)))
+        elif name in WHY:
+            self.ends(order, *WHY[name])
+        elif name == "lost":
+            self.ends(order, "in doubt", WITHHELD if words[3:4] == ["withheld"] else "no answer came: it may be done or not")
+
+    def ends(self, order, state, why):
         """The order that the panel had of a device has its end."""
-        order = self.current.pop(int(address[0]), None) if address and address[0].isdigit() else None
-        if order:
-            self.becomes(order, state, why)
-            if order.text.startswith("OUT ") and state == "answered":
-                self.looks_again(order)
+        del self.current[order.address]
+        self.becomes(order, state, why)
+        if order.text.startswith("OUT ") and state == "answered":
+            self.looks_again(order)
 
     def looks_again(self, order):
         """An output was switched: the device is asked for its outputs now, and again once the time is over."""

@@ -5,6 +5,7 @@ from collections import Counter, deque
 
 from ..faults import shown
 from ..report_lines import times_of
+from ..reports import without_number
 from .formats import card_of, masked
 from .listener import Listener
 from .setup import Setup
@@ -189,7 +190,7 @@ class Model:
 
     def is_say(self, fact):
         """A line of the panel, of a search, or of the port."""
-        words, at = fact["text"].split(), fact["at"]
+        words, at = without_number(fact["text"]), fact["at"]
         name = words[0] if words else ""
         does = getattr(self, f"hears_{name.replace('-', '_')}", None)
         if does and self.line["doing"] == "panel":
@@ -203,7 +204,7 @@ class Model:
     @staticmethod
     def is_by_the_page(words):
         """Whether a line is about what the page itself asks a device for, again and again."""
-        return words[:1] in (["ordered"], ["settled"]) and words[2:3] and words[2] in ("CAP", "LSTAT", "ISTAT", "OSTAT", "RSTAT")
+        return words[:1] in (["waits"], ["settled"]) and words[2:3] and words[2] in ("CAP", "LSTAT", "ISTAT", "OSTAT", "RSTAT")
 
     @staticmethod
     def without_digits(words, text):
@@ -247,7 +248,8 @@ class Model:
     def hears_event(self, words, at, is_again=False):
         card = card_of(words[2:2 + WORDS.get(words[2], 0)])
         if card:
-            self.cards.append({"at": at, "address": int(words[1]), "again": is_again, **card})
+            age = words[words.index("(up") + 2] if "(up" in words else None
+            self.cards.append({"at": at, "address": int(words[1]), "again": is_again, "age": age, **card})
             self.changed("cards")
         self.takes_state(int(words[1]), words[2:])
 

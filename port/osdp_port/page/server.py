@@ -7,10 +7,12 @@ import hmac
 import json
 import os
 import sys
+import time
 from pathlib import Path
 
 from aiohttp import WSMsgType, web
 
+from ..turns import CLOCK
 from .commands import checked
 from .desk import Bad
 from .files import report_of, trace_of
@@ -136,7 +138,7 @@ class Server:
         command = checked(command)
         if command["do"] == "order":
             self.numbers += 1
-            command["number"] = self.numbers
+            command.update(number=self.numbers, since=time.clock_gettime(CLOCK))
         self.commands(command)
 
     async def sends(self, socket, page):

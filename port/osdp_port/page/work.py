@@ -22,8 +22,8 @@ from .desk import Desk
 
 LISTENS = 1.0  # seconds that the line is listened to before anything is sent
 LISTENS_ELSEWHERE = 0.3  # .. at each other rate, where bytes come that can't be read
-LATE = 5000  # milliseconds, as `osdp-port panel` has it
 TASKS = ("watch", "find", "set", "panel", "test")
+WAYS = ("search for it by Find", "see what the monitor tells")  # what advice names in place of a command: the parts of the page
 
 
 class Asking(find.Line):
@@ -116,7 +116,7 @@ class Work:
             self.console.wake()
         elif name == "order":
             if desk:
-                desk.gives(command["number"], command["address"], command["order"])
+                desk.gives(command["number"], command["address"], command["order"], self.moment(command["since"]))
             else:
                 self.tells("order", number=command["number"], address=command["address"], text="", state="refused", why="no panel runs")
         elif name == "take back" and desk:
@@ -250,13 +250,12 @@ class Work:
         if self.hears_a_panel():
             return
         program = Lines(self.osdp, ["panel", *SETTINGS, "check", command["check"], "reply-wait", str(command["wait"])])
-        advice = Advice(self.console.say, self.port)
+        advice = Advice(self.console.say, self.port, WAYS)
 
         def says(line):
             self.console.say(line)
             advice.heard(line)
         machine = Panel(self.port, program, new_devices(command["addresses"], self.port.rate, None), self.moment, says)
-        machine.late = LATE
         desk = Desk(machine, self.tells, self.tells_port)
         desk.is_watched, self.console.desk = self.is_watched, desk
         self.port.taps += [advice, desk]

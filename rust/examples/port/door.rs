@@ -3,7 +3,7 @@
 use super::stand::{Id, Place, Stand, id_of, read_stands, stand_of, write_stand};
 use super::store::Store;
 use super::{Port, RATES, tell};
-use osdp::{Command, EntryNumber, Moment, Panel, Presence, Reply, Report, Site};
+use osdp::{Command, EntryNumber, Moment, Panel, Presence, Reply, Report, Site, Unsent};
 use std::error::Error;
 use std::io;
 
@@ -51,7 +51,7 @@ impl Door {
         let mut stands = store.as_ref().map_or(Ok(Vec::new()), read_stands)?;
         let at = stand_of(&mut stands, name, port.rate)?;
         let mut door = Door {
-            entry: panel.add(stands[at].place().0)?,
+            entry: panel.add(stands[at].place().0, 0)?,
             may_order: false,
             site: Site::new(panel, port.now()),
             other: None,
@@ -106,9 +106,8 @@ impl Door {
         Ok(())
     }
 
-    /// Lets its open session end, by leaving out what the panel says: there is no call for it. For a program that stood still or is late, since an order of before would
-    /// go out; and where another device stands at one of two places.
-    pub fn leave(&mut self) {
+    /// Lets its open session end, by leaving out what the panel says: there is no call for it. For another device, which stands at one of two places.
+    fn leave(&mut self) {
         let presence = self.site.presence(self.entry);
         self.is_left = presence.is_some_and(Presence::is_online);
         self.may_order = false;
@@ -124,12 +123,12 @@ impl Door {
         self.keep().map(drop)
     }
 
-    /// Writes what the panel says, but to a door whose session is let end. One that is late since this moment isn't written, and the session is let end.
-    pub fn write(&mut self, port: &mut Port, burst: &[u8], since: Moment) -> io::Result<()> {
-        if !self.is_left && !port.write(burst, since)? {
-            self.leave();
+    /// Writes what the panel says, but to a door whose session is let end.
+    pub fn write(&self, port: &mut Port, unsent: Unsent<'_>) -> io::Result<()> {
+        match self.is_left {
+            true => Ok(()),
+            false => port.write_unsent(unsent),
         }
-        Ok(())
     }
 
     /// Does what a report asks for about its place and its session.
@@ -143,8 +142,10 @@ impl Door {
                 }
                 self.meet(id)?;
             }
-            // A COMSET that was refused. After any other answer it may be at either place, and is looked for at both once it is lost.
-            Report::Settled(command, Reply::Nak(_)) if command.code() == 0x6E => {
+            // A COMSET that was refused, or never went out. After any other answer it may be at either place, and is looked for at both once it is lost.
+            Report::Settled(command, Reply::Nak(_)) | Report::Expired(command)
+                if command.code() == 0x6E =>
+            {
                 self.stands_at(self.stands[self.at].place())?;
             }
             Report::Moved(_, reply) => {
@@ -186,8 +187,14 @@ impl Door {
         Ok(())
     }
 
-    /// Does what a line says: `move 7 9600` gives the device another address and rate, and `accept` takes another device for it. Whether it says that.
-    pub fn take_line(&mut self, panel: &mut Panel, line: &str) -> Result<bool, Box<dyn Error>> {
+    /// Does what a line says: `move 7 9600` gives the device another address and rate, if that goes out by a moment, and `accept` takes another device for it.
+    /// Whether it says that.
+    pub fn take_line(
+        &mut self,
+        panel: &mut Panel,
+        line: &str,
+        until: Moment,
+    ) -> Result<bool, Box<dyn Error>> {
         let words: Vec<&str> = line.split_whitespace().collect();
         match (&words[..], self.other.take()) {
             (["accept"], Some((id, _))) => self.accept(id)?,
@@ -213,7 +220,7 @@ impl Door {
                 let place = self.stands[self.at].place();
                 self.stands[self.at].places = vec![(address, rate), place];
                 // before it goes out: it may be there from then on
-                if !self.keep()? || panel.submit(self.entry, &comset).is_err() {
+                if !self.keep()? || panel.submit(self.entry, &comset, until).is_err() {
                     self.stands_at(place)?;
                     return Ok(false);
                 }

@@ -12,7 +12,6 @@ pub enum End {
     Settled,
     Doubt,
     Back,
-    Refused,
 }
 
 impl End {
@@ -22,7 +21,6 @@ impl End {
             End::Settled => "settled",
             End::Doubt => "doubt",
             End::Back => "back",
-            End::Refused => "refused",
         }
     }
 }
@@ -32,6 +30,11 @@ fn date(after: Duration) -> i64 {
     let since = SystemTime::now().duration_since(UNIX_EPOCH);
     let since = since.unwrap_or_default() + after;
     i64::try_from(since.as_millis()).unwrap_or(i64::MAX)
+}
+
+/// The number of an order, as a store has it.
+fn key(number: u64) -> Value {
+    Value::from(i64::try_from(number).unwrap_or(i64::MAX))
 }
 
 /// What became of an order, as it is told.
@@ -47,7 +50,7 @@ pub struct Ledger {
     store: Store,
     device: Value,
     said: Vec<String>,
-    doubts: Vec<i64>,
+    doubts: Vec<u64>,
     /// Whether the user has heard all that can be known of those.
     is_heard: bool,
 }
@@ -93,7 +96,8 @@ impl Ledger {
         }
         let open = "SELECT number FROM orders WHERE device = ? AND state = 'open' ORDER BY number";
         for row in ledger.rows(open)? {
-            ledger.doubt(row[0].number().unwrap_or_default())?;
+            let number = row[0].number().unwrap_or_default();
+            ledger.doubt(u64::try_from(number).unwrap_or_default())?;
         }
         Ok(ledger)
     }
@@ -112,28 +116,39 @@ impl Ledger {
         self.said.push(line);
     }
 
-    /// Stores an order that is about to be given, and goes out within this time. Its number: they count on, also over restarts.
-    pub fn gives(&mut self, text: &str, until: Duration) -> io::Result<i64> {
+    /// The number of the next order: they go on over restarts. The panel is made with it.
+    pub fn next_number(&self) -> io::Result<u64> {
         let last = "SELECT max(number) FROM orders WHERE device = ?";
         let last = self
             .store
             .number(last, std::slice::from_ref(&self.device))?;
-        let number = 1 + last.unwrap_or(0);
+        Ok(1 + last.and_then(|last| u64::try_from(last).ok()).unwrap_or(0))
+    }
+
+    /// Stores an order that is about to be given, by the number that the panel will give it, and within which time it may go out.
+    pub fn gives(&mut self, number: u64, text: &str, until: Duration) -> io::Result<()> {
         self.store.write(
             "INSERT INTO orders (device, number, text, until) VALUES (?, ?, ?, ?)",
             &[
                 self.device.clone(),
-                number.into(),
+                key(number),
                 text.into(),
                 date(until).into(),
             ],
-        )?;
-        Ok(number)
+        )
+    }
+
+    /// The panel has refused that order: the next one gets its number.
+    pub fn refused(&mut self, number: u64) -> io::Result<()> {
+        self.store.write(
+            "DELETE FROM orders WHERE device = ? AND number = ?",
+            &[self.device.clone(), key(number)],
+        )
     }
 
     fn write_end(
         &mut self,
-        number: i64,
+        number: u64,
         end: End,
         answer: Option<&str>,
         is_told: bool,
@@ -145,22 +160,20 @@ impl Ledger {
                 answer.map_or(Value::Nothing, Value::from),
                 i64::from(is_told).into(),
                 self.device.clone(),
-                number.into(),
+                key(number),
             ],
         )
     }
 
     /// The text of an order.
-    fn text(&self, number: i64) -> io::Result<String> {
+    fn text(&self, number: u64) -> io::Result<String> {
         let text = "SELECT text FROM orders WHERE device = ? AND number = ?";
-        let text = self
-            .store
-            .text(text, &[self.device.clone(), number.into()])?;
+        let text = self.store.text(text, &[self.device.clone(), key(number)])?;
         Ok(text.unwrap_or_default())
     }
 
-    /// Stores what became of an order, with the reply, or why it was refused.
-    pub fn ends(&mut self, number: i64, end: End, answer: Option<String>) -> io::Result<()> {
+    /// Stores what became of an order, with the reply.
+    pub fn ends(&mut self, number: u64, end: End, answer: Option<String>) -> io::Result<()> {
         self.write_end(number, end, answer.as_deref(), false)?;
         let text = self.text(number)?;
         self.say(format!(
@@ -171,7 +184,7 @@ impl Ledger {
     }
 
     /// An order is in doubt: that is told, and stored once its user has heard all that can be known of it.
-    pub fn doubt(&mut self, number: i64) -> io::Result<()> {
+    pub fn doubt(&mut self, number: u64) -> io::Result<()> {
         let text = self.text(number)?;
         self.say(format!("doubt {number} {text}"));
         self.doubts.push(number);

@@ -1,5 +1,5 @@
 //! A serial port, a clock, and lines of standard input, by `std` and three calls of the system: `stty` sets the port. One thread waits for both, takes the moment, and
-//! then reads all that is there: so nothing of it is older than the program may be late.
+//! then reads all that is there.
 pub mod device;
 pub mod door;
 pub mod ledger;
@@ -7,7 +7,7 @@ mod sqlite;
 pub mod stand;
 pub mod store;
 
-use osdp::{Answer, Device, Expired, Moment, Order};
+use osdp::{Moment, Unsent};
 use std::error::Error;
 use std::ffi::{c_int, c_short, c_ulong};
 use std::fmt::Display;
@@ -18,7 +18,6 @@ use std::os::unix::fs::{MetadataExt, OpenOptionsExt};
 use std::process::{Command, ExitCode, Stdio};
 use std::time::Duration;
 
-use stand::{Stand, read_stands, write_stand};
 use store::Store;
 
 /// A file that is waited for, as `poll` takes it.
@@ -36,12 +35,10 @@ unsafe extern "C" {
     fn poll(files: *mut Waited, count: c_ulong, wait: c_int) -> c_int;
 }
 
-// Numbers of Linux: neither to wait at a read nor at the opening, nor to take the port as the terminal of the program; to let no other program open the port; to drop
-// what has come; and to wait for bytes, or until bytes can be written.
+// Numbers of Linux: neither to wait at a read nor at the opening, nor to take the port as the terminal of the program; to let no other program open the port; and to
+// wait for bytes, or until bytes can be written.
 const O_NONBLOCK_NOCTTY: i32 = 0o4400;
 const TIOCEXCL: c_ulong = 0x540C;
-const TCFLSH: c_ulong = 0x540B;
-const TCIFLUSH: c_int = 0;
 const POLLIN: c_short = 1;
 const POLLOUT: c_short = 4;
 /// The clock that goes on while the computer sleeps, so that a card from before is seen as old. That of `Instant` stands still then.
@@ -63,8 +60,10 @@ pub struct Came {
     pub now: Moment,
     pub bytes: Vec<u8>,
     pub lines: Vec<String>,
-    /// Whether the program stood still for longer than it may be late: it was stopped, or the computer has slept, or what it did before took so long. Then bytes that
-    /// had come are dropped, as a line may lose them.
+    /// When standard input was last seen empty: the lines were typed after that.
+    #[allow(dead_code)] // a device's program has no use for it
+    pub typed: Moment,
+    /// Whether the program stood still for longer than it may be late: it was stopped, or the computer has slept, or what it did before took so long.
     pub stood_still: bool,
 }
 
@@ -83,6 +82,8 @@ pub struct Port {
     started: Duration,
     /// When the last wait ended.
     last: Option<Moment>,
+    /// When standard input was last seen empty.
+    empty: Moment,
     /// A line that isn't whole yet; none once standard input has ended.
     line: Option<Vec<u8>>,
     /// The rate that the words of the program have, and what else they say.
@@ -122,6 +123,7 @@ impl Port {
             file,
             started: boot_time(),
             last: None,
+            empty: Moment::from_millis(0),
             line: Some(Vec::new()),
             rate,
             options,
@@ -155,7 +157,7 @@ impl Port {
         self.options.late.unwrap_or(LATE)
     }
 
-    /// Waits for bytes or lines, up to a moment, and then reads all that is there. An error where the port is gone.
+    /// Waits for bytes or lines, up to a moment. Then it takes the moment, and reads all that is there. An error where the port is gone.
     pub fn wait(&mut self, until: Moment) -> io::Result<Came> {
         let late = self.late();
         let began = self.now();
@@ -163,26 +165,31 @@ impl Port {
         let wait = until.since(began).min(LONGEST);
         let [has_bytes, has_lines] = self.ready(POLLIN, wait);
         let now = self.now();
-        let mut came = Came {
-            now,
-            bytes: Vec::new(),
-            lines: Vec::new(),
-            stood_still: began.since(last) > late || now.since(last) > wait + late,
-        };
+        let typed = self.empty;
         self.last = Some(now);
-        self.drop_if(came.stood_still);
-        if has_lines {
-            came.lines = self.read_lines()?;
+        self.empty = if has_lines { typed } else { began };
+        let lines = if has_lines {
+            self.read_lines()?
+        } else {
+            Vec::new()
+        };
+        let mut bytes = if has_bytes {
+            self.read_bytes()?
+        } else {
+            Vec::new()
+        };
+        let stood_still =
+            began.since(last) > late || now.since(last) > wait + late || self.is_late(now);
+        if stood_still {
+            bytes.extend(self.read_bytes()?); // what came since the wait is of that time too
         }
-        if has_bytes && !came.stood_still {
-            came.bytes = self.read_bytes()?;
-        }
-        if self.is_late(now) {
-            came.stood_still = true; // since the wait has ended: what was read may be of long ago too
-            came.bytes.clear();
-            self.drop_if(true);
-        }
-        Ok(came)
+        Ok(Came {
+            now,
+            bytes,
+            lines,
+            typed,
+            stood_still,
+        })
     }
 
     /// Waits so long at most. Whether the port is ready, and whether standard input has something.
@@ -200,14 +207,6 @@ impl Port {
         // SAFETY: there are two files. Where the call fails, as by a signal, nothing was found.
         let _ = unsafe { poll(files.as_mut_ptr(), 2, wait.as_millis() as c_int) };
         files.map(|file| file.found != 0)
-    }
-
-    /// Drops the bytes that have come.
-    fn drop_if(&self, is_old: bool) {
-        if is_old {
-            // SAFETY: the call gets an open file and a number. Where it fails nothing was dropped, as where nothing has come.
-            let _ = unsafe { ioctl(self.file.as_raw_fd(), TCFLSH, TCIFLUSH) };
-        }
     }
 
     /// All bytes that are there; none where another program has taken them away.
@@ -259,12 +258,9 @@ impl Port {
         Ok(lines)
     }
 
-    /// Writes bytes that were made at a moment, if they aren't late. Whether they were written. An error where the port takes nothing for five seconds.
-    pub fn write(&mut self, mut bytes: &[u8], since: Moment) -> io::Result<bool> {
+    /// Writes bytes, all of them. An error where the port takes nothing for five seconds.
+    fn write(&mut self, mut bytes: &[u8]) -> io::Result<()> {
         let began = self.now();
-        if self.is_late(since) {
-            return Ok(false);
-        }
         while !bytes.is_empty() {
             match self.file.write(bytes) {
                 Ok(count) => bytes = &bytes[count..],
@@ -278,7 +274,19 @@ impl Port {
                 Err(error) => return Err(error),
             }
         }
-        Ok(true)
+        Ok(())
+    }
+}
+
+/// What a panel needs beside it, and a device doesn't.
+#[allow(dead_code)]
+impl Port {
+    /// Writes what a panel has to send. The moment is taken here: a program that stood still since the tick sends no order that has become too old.
+    pub fn write_unsent(&mut self, unsent: Unsent<'_>) -> io::Result<()> {
+        match unsent.write(self.now()) {
+            Ok(burst) => self.write(&burst),
+            Err(_) => Ok(()), // the moment lies more than a day ahead: the burst is lost, and the next turn sets the moment
+        }
     }
 }
 
@@ -340,97 +348,6 @@ fn taken(path: &str) -> io::Error {
     });
     let owner = owner.unwrap_or_default();
     io::Error::other(format!("another program has the port {path}{owner}"))
-}
-
-/// What a device needs beside it, and a panel doesn't.
-#[allow(dead_code)]
-impl Port {
-    /// The address of a device that keeps its place: the one in the store, to whose rate the port is set, or its first one where nothing was kept yet.
-    pub fn address(&mut self, first: u8) -> Result<u8, Box<dyn Error>> {
-        (self.name, self.address) = (first, first);
-        let Some(path) = self.options.kept.clone() else {
-            return Ok(first);
-        };
-        let store = Store::open(&path, "device", self.options.is_new)?;
-        let stands = read_stands(&store)?;
-        self.store = Some(store);
-        match &stands[..] {
-            [] => self.keep((first, self.rate))?,
-            [mine] => {
-                let (address, rate) = mine.place();
-                (self.name, self.address) = (mine.name, address);
-                self.set_rate(rate).map_err(|_| {
-                    format!("the port can't be set to {rate}, the rate that {path} has")
-                })?;
-            }
-            _ => Err(format!(
-                "{path} keeps several devices, and a device is one: name another file"
-            ))?,
-        }
-        Ok(self.address)
-    }
-
-    /// Keeps where the device is from now on. Tells where that can't be done.
-    fn keep(&mut self, place: (u8, u32)) -> io::Result<()> {
-        let Some(store) = &mut self.store else {
-            return Ok(());
-        };
-        let stand = Stand {
-            name: self.name,
-            places: vec![place],
-            id: None,
-        };
-        match write_stand(store, &stand).and_then(|()| store.commit()) {
-            Ok(()) => Ok(()),
-            Err(why) => tell(format_args!("not kept {} {}: {why}", place.0, place.1)),
-        }
-    }
-
-    /// Whether the port can be set to a rate: it is set to it, and back.
-    pub fn can_have(&self, rate: u32) -> bool {
-        let takes = RATES.contains(&rate) && set(&self.file, rate).is_ok();
-        set(&self.file, self.rate).is_ok() && takes
-    }
-
-    /// Where a COMSET was refused since the last call, the device is made anew where it was, by `start` at its address. The events that wait are told: no panel
-    /// gets them.
-    pub fn starts_anew(
-        &mut self,
-        device: &mut Device,
-        start: impl FnOnce(u8) -> Result<Device, osdp::Error>,
-    ) -> Result<(), Box<dyn Error>> {
-        if std::mem::take(&mut self.has_refused) {
-            while let Some(event) = device.lapse_event() {
-                tell(format_args!("{:?}", Expired::InDoubt(event)))?;
-            }
-            while let Some(event) = device.withdraw_event() {
-                tell(format_args!("{:?}", Expired::Withdrawn(event)))?;
-            }
-            *device = start(self.address)?;
-        }
-        Ok(())
-    }
-
-    /// Sends the answer of a device to what came by a moment, if it isn't late. Where it has moved, its place is kept before the panel is told, and the port goes to its
-    /// rate after that. A COM of a rate that the port hasn't isn't sent, since nobody would find the device there: it is made anew where it was, as after a loss of
-    /// power.
-    pub fn send(&mut self, answer: Answer<'_>, now: Moment) -> io::Result<Option<Order>> {
-        let moved = answer.moved;
-        if let Some(to) = moved {
-            self.has_refused = !self.can_have(to.baud_rate);
-            if self.has_refused {
-                tell(format_args!("no rate {}", to.baud_rate))?;
-                return Ok(None);
-            }
-            self.address = to.address;
-        }
-        if let Some(to) = moved {
-            self.keep((to.address, to.baud_rate))?;
-        }
-        let order = answer.send(|burst| self.write(burst, now).map(drop))?;
-        moved.map_or(Ok(()), |to| self.set_rate(to.baud_rate))?;
-        Ok(order)
-    }
 }
 
 /// A device's two numbers, as /proc/locks has them.

@@ -79,7 +79,7 @@ function states(device) {
   const claims = (code) => ((device.caps || []).find((each) => each[0] === code) || [0, 0, 255])[2];
   const pill = (name, words, kind) => made("span", { className: `pill ${kind}`, textContent: `${name}: ${words}` });
   return [
-    ..."tamper power".split(" ").filter((each) => each in said).map((each) => pill(text(`part.${each}`), text(said[each] ? "is.bad" : "is.well"), said[each] ? "bad" : "go")),
+    ..."tamper power".split(" ").filter((each) => each in said).map((each) => pill(text(`part.${each}`), text(`${each}.${said[each] ? 1 : 0}`), said[each] ? "bad" : "go")),
     ...["input", "output"].flatMap((each, kind) => (said[`${each}s`] || []).slice(0, claims(kind + 1)).map((on, place) => pill(text(`part.${each}`, place), text(on ? "is.on" : "is.off"), on ? "busy" : ""))),
   ];
 }
@@ -145,7 +145,8 @@ function cardItem(each) {
   const formats = each.formats.map((found) => text(found.format === "H10302" ? "cards.format.alone" : "cards.format", found.format, masked(found.facility), masked(found.number)));
   const lines = isCard ? [...(formats.length ? formats : [text("cards.unknown")]), text("cards.digits", masked(each.digits)), ...(each.bits || hidden ? [text("cards.bits", masked(each.bits))] : [])] : [masked(each.digits)];
   return made("li", {}, made("div", { className: "head" }, made("strong", { textContent: head }), made("span", { className: "small", textContent: clock(each.at) })),
-    ...lines.map((words) => made("div", { textContent: words })), each.again ? made("small", { textContent: text("cards.again") }) : null);
+    ...lines.map((words) => made("div", { textContent: words })), each.again ? made("small", { textContent: text("cards.again") }) : null,
+    each.age ? made("small", { textContent: text("cards.age", each.age) }) : null);
 }
 
 export function drawCards(cards, isRevealed) {

@@ -6,7 +6,7 @@ let shown = null;
 let line = null;
 let chosen = null; // the device that is to be set, and where
 
-export const identity = (device) => [[text("field.maker"), device.vendor], [text("field.model"), `${device.model}, ${device.version}`], [text("field.serial"), device.serial], [text("field.firmware"), device.firmware]];
+export const identity = (device) => [[text("field.maker"), device.vendor], [text("field.model"), text("field.model.is", device.model, device.version)], [text("field.serial"), device.serial], [text("field.firmware"), device.firmware]];
 
 export function begin(show) {
   rates(at("find-rate"), 9600);

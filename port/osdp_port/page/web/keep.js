@@ -10,7 +10,7 @@ export function begin() {
 }
 
 export function drawTrace(line) {
-  put(at("trace-state"), line.tracing ? text("keep.is.on", line.trace) : text("keep.is.off", line.traced));
+  put(at("trace-state"), line.tracing ? text("keep.is.on", line.trace) : text(line.traced ? "keep.was.on" : "keep.is.off", line.traced.replace(/^trace /, "")));
   at("trace-on").hidden = line.tracing;
   at("trace-off").hidden = !line.tracing;
   at("trace-save").hidden = at("trace-report").hidden = !line.trace;

@@ -1,6 +1,6 @@
 // The line: how busy it is, a timeline of each device, what is likely wrong, and what the monitor tells.
 import { at, clock, figures, fill, made, number, put, replace } from "./kit.js";
-import { advice, text } from "./texts.js";
+import { advice, has, text } from "./texts.js";
 
 const ROWS = ["polls", "answers", "repeats", "orders", "cards", "damage", "accused"];
 const BUCKETS = 240; // quarters of a second
@@ -71,7 +71,7 @@ export function drawCounts({ devices, line, pace }) {
 function toldItem(each) {
   const packets = each.packets.map((packet) => made("li", { textContent: `${clock(packet.at)} ${packet.kind} seq ${packet.number} ${packet.check} ${packet.text}` }));
   const bytes = ["expected", "seen"].filter((name) => each[name]).map((name) => made("li", { textContent: text(`told.${name}`, each[name]) }));
-  const todo = advice(each.text);
+  const todo = has(`told.is.${each.text}`) ? text(`told.is.${each.text}`) : advice(each.text);
   return made("li", {}, made("div", { className: "head" }, made("strong", { textContent: text(`told.${each.party}`, each.address, each.text) }), made("span", { className: "small", textContent: each.at ? clock(each.at) : "" })),
     todo ? made("small", { textContent: todo }) : null,
     each.took ? made("small", { textContent: text("told.took", each.took, each.waited) }) : null,
@@ -86,7 +86,7 @@ export function drawTold({ told, diagnoses }, log) {
 // What is likely wrong: the monitor's diagnoses, and what the panel advises, each with what to do.
 export function drawWrong(diagnoses, log) {
   const told = log.filter((each) => each.text.startsWith("advice: ")).slice(-5).map((each) => ({ head: each.text.slice(8), todo: "" }));
-  const list = [...diagnoses.map((each) => ({ head: each, todo: advice(each) })), ...told];
+  const list = [...diagnoses.map((each) => ({ head: each.replace(/^(\d+) /, (_, address) => text("line.device", address)), todo: advice(each) })), ...told];
   const items = list.map((each) => made("li", {}, each.head, each.todo ? made("small", { textContent: each.todo }) : null));
   replace(at("diagnoses"), ...(items.length ? items : [made("li", { className: "none", textContent: text("line.nothing") })]));
 }

@@ -2,7 +2,7 @@
 import { announce, at, fill, made, orders, put, rates, replace } from "./kit.js";
 import { has, text } from "./texts.js";
 
-const MAY = ["silence", "led", "buz", "text", "comset", "beyond", "out:0"];
+const MAY = ["silence", "led", "buz", "text", "comset", "beyond", "out:0", "relay:0"];
 
 export function begin() {
   rates(at("test-rate"), 9600);
@@ -24,8 +24,8 @@ export function takes(found) {
 
 function leftOut([rule, why]) {
   const allow = why.match(/^--may=(\w+)/);
-  const words = allow && has(`may.${allow[1]}`) ? text("test.left.one", rule, text(`may.${allow[1]}`)) : allow ? text("test.left.one", rule, allow[1] === "out" ? text("may.out:0") : allow[1]) : text("test.left.why", rule, why.replaceAll("-", " "));
-  return made("li", { textContent: words });
+  const may = allow && [`may.${allow[1]}`, `may.${allow[1]}:0`].find(has);
+  return made("li", { textContent: may ? text("test.left.one", rule, text(may)) : text("test.left.why", rule, why.replaceAll("-", " ")) });
 }
 
 export function draw(test, line) {

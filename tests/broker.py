@@ -1,0 +1,537 @@
+"""A broker, two lines and their services, of which nothing stays: `broker.py OSDP [--seed N] [--orders N] [--cards N] [--longest S] [--wrong RULE]`.
+
+Each line has three devices of ours on a pseudo terminal (`broker_line.py`). A sender gives orders by keys and repeats each message until it has the outcome; cards are held to the
+devices. Meanwhile broker, services, lines, devices and terminals are killed, stopped for 3 to S seconds, or taken away, and disks are full, at random by the seed.
+
+At the end: each key that was accepted has one outcome, and another one never moved a relay; no relay moved twice for a key, nor after its time; what was settled was done, and what
+expired, was refused or forgotten wasn't; no event is missing but the last ones of a device that lost power; only a marked one comes twice; numbers have no gap.
+
+With --wrong a rule of the service is left out (`broker_wrong.py`): then something of that has to be found. Prints the counts, and each fault; the status is 1 where there is one."""
+import argparse
+import json
+import os
+import random
+import re
+import signal
+import socket
+import subprocess
+import sys
+import tempfile
+import threading
+import time
+from collections import Counter, defaultdict
+from pathlib import Path
+
+import jsonschema
+from paho.mqtt import client as mqtt
+from paho.mqtt.packettypes import PacketTypes
+from paho.mqtt.properties import Properties
+
+TOP = Path(__file__).resolve().parent.parent
+sys.dont_write_bytecode = True
+FORM = jsonschema.Draft202012Validator(json.loads((TOP / "docs/broker.schema.json").read_text()))
+# a fault by which it is found that a rule is left out
+FOUND = {"dedupe": "moved [0-9]+ times$", "expiry": "after its time$", "store": "moved [0-9]+ times$|has several outcomes"}
+LINES, DEVICES = ("north", "south"), 3
+DEVICE_LATE = 1000  # so late our devices may act, in milliseconds
+KINDS = ("kills broker", "stops broker", "kills service", "ends service", "stops service", "kills line", "stops line", "restarts", "pulls", "fills")
+SETTLES = 60.0  # so many seconds all has to come to its end once nothing fails any more
+END_OF_KEY = 4000  # so many milliseconds after its time a key that isn't known stays so
+
+
+def moment():
+    return int(time.clock_gettime(time.CLOCK_BOOTTIME) * 1000)
+
+
+class Process:
+    """A program that is killed, stopped and started again."""
+
+    def __init__(self, starts):
+        self.starts, self.process, self.back_at, self.stopped_until, self.starts_count = starts, None, 0, None, 0
+
+    def looks(self):
+        """Starts it where it is to be there, and lets it go on where it has stood still for long enough."""
+        if self.process is not None and self.process.poll() is not None:
+            self.process = None
+            self.back_at = max(self.back_at, moment() + 400)
+        if self.process is None and moment() >= self.back_at:
+            self.process, self.stopped_until = self.starts(), None
+            self.starts_count += 1
+        if self.stopped_until is not None and moment() >= self.stopped_until:
+            self.goes_on()
+
+    def kills(self, pause):
+        self.back_at = moment() + pause
+        if self.process:
+            self.process.kill()
+            self.process.wait()
+            self.process = None
+        self.stopped_until = None
+
+    def ends(self):
+        """Ends it as a service manager does. It says goodbye, and is started again."""
+        if self.process and self.stopped_until is None:
+            self.process.send_signal(signal.SIGTERM)
+
+    def stops(self, pause):
+        if self.process and self.stopped_until is None:
+            self.process.send_signal(signal.SIGSTOP)
+            self.stopped_until = moment() + pause
+
+    def goes_on(self):
+        if self.process and self.stopped_until is not None:
+            self.process.send_signal(signal.SIGCONT)
+        self.stopped_until = None
+
+
+class Client:
+    """A program at the other side of the broker. Each connection has a client of its own: so no library sends a message once more whose time has gone on."""
+
+    def __init__(self, port):
+        self.port, self.client, self.is_there, self.made = port, None, False, 0
+        self.messages, self.lock, self.pulses = [], threading.Lock(), {}
+
+    def looks(self):
+        if self.client is None or not self.is_there and moment() > self.made + 3000:
+            self.ends()
+            self.made = moment()
+            self.client = mqtt.Client("", protocol=mqtt.MQTTv5)
+            self.client.on_connect, self.client.on_disconnect, self.client.on_message = self.connected, self.gone, self.came
+            self.client.connect_async("127.0.0.1", self.port, 10)
+            self.client.loop_start()
+
+    def ends(self):
+        if self.client:
+            self.client.on_disconnect = self.client.on_connect = None
+            self.client.disconnect()
+            self.client.loop_stop()
+            self.client = None
+
+    def connected(self, client, *_):
+        client.subscribe([(f"osdp/+/+/{name}", 1) for name in ("outcome", "event", "rejected")] + [("osdp/+/pulse", 1), ("osdp/+/presence", 1), ("osdp/+/figures", 1)])
+        self.is_there = True
+
+    def gone(self, *_):
+        self.is_there = False
+
+    def came(self, _, __, message):
+        if message.topic.endswith("/pulse"):
+            self.pulses[message.topic.split("/")[1]] = json.loads(message.payload)["pulse"]
+        with self.lock:
+            self.messages.append((message.topic, bytes(message.payload), moment()))
+
+    def taken(self):
+        with self.lock:
+            found, self.messages = self.messages, []
+        return found
+
+    def publishes(self, topic, fields, expiry=None, retain=False):
+        if not self.is_there:
+            return
+        more = Properties(PacketTypes.PUBLISH)
+        if expiry is not None:
+            more.MessageExpiryInterval = expiry
+        try:
+            self.client.publish(topic, json.dumps({"version": 1, **fields}), qos=1, retain=retain, properties=more)
+        except (OSError, ValueError):
+            pass  # the connection has gone
+
+
+class Key:
+    """An order of the sender: a relay that moves for a time that no other order has."""
+
+    def __init__(self, number, line, device, seconds, at):
+        self.key, self.line, self.device = f"key-{number}", line, device
+        self.command = f"OUT {number % 8}:5:{1 + number // 8}"
+        self.time, self.at = moment() + 1000 * seconds, at
+        self.outcomes, self.is_unknown, self.was_known, self.sends = {}, False, False, 0
+        self.more = number % 3  # how often it is sent once more although its outcome is there
+
+    @property
+    def topic(self):
+        return f"osdp/{self.line}/door-{self.device + 1}"
+
+    def is_over(self):
+        return bool(self.outcomes) or self.is_unknown
+
+    def is_to_be_sent(self, now):
+        """Whether its message is due."""
+        if now < self.at:
+            return False
+        if not self.is_over():
+            return True
+        self.more -= 1
+        return self.more >= 0 and now < self.time
+
+
+class Building:
+    """All of it."""
+
+    def __init__(self, words, work):
+        self.words, self.work, self.random = words, work, random.Random(words.seed)
+        self.faults, self.keys, self.wrong, self.shown = [], {}, {}, 0
+        self.events, self.rejected, self.did = defaultdict(dict), Counter(), Counter()
+        self.marked, self.asked_at = set(), {}
+        self.port = self.free_port()
+        (work / "broker.conf").write_text(f"listener {self.port} 127.0.0.1\nallow_anonymous true\npersistence true\npersistence_location {work}/\nautosave_interval 1\n"
+                                          "max_queued_messages 100000\n")
+        self.broker = Process(lambda: self.starts("broker", ["mosquitto", "-c", work / "broker.conf"]))
+        self.line, self.service = {}, {}
+        for name in LINES:
+            self.prepares(name)
+        self.client = Client(self.port)
+
+    @staticmethod
+    def free_port():
+        with socket.socket() as found:
+            found.bind(("127.0.0.1", 0))
+            return found.getsockname()[1]
+
+    def starts(self, name, words, **more):
+        with open(self.work / f"{name}.log", "ab") as log:
+            return subprocess.Popen([str(word) for word in words], stdout=log, stderr=log, **{"stdin": subprocess.DEVNULL, **more})
+
+    def prepares(self, name):
+        """The configuration, the store and the programs of a line."""
+        folder, work = self.work / name, self.work
+        folder.mkdir()
+        names = "\n".join(f"door-{at + 1} = {5 + at}" for at in range(DEVICES))
+        (work / f"{name}.toml").write_text(f"version = 1\nline = \"{name}\"\nport = \"{work}/{name}.port\"\nstore = \"{folder}/store\"\n[devices]\n{names}\n[broker]\nport = {self.port}\n"
+                                           f"[events]\noldest = 30\n")
+        script = TOP / "tests/broker_wrong.py" if self.words.wrong else TOP / "port/osdp-port"
+        program = ["/usr/bin/python3", "-B", script, *([self.words.wrong] if self.words.wrong else []), "--osdp", self.words.osdp, "--config", work / f"{name}.toml", "serve"]
+        subprocess.run([str(word) for word in [*program, "--new"]], check=True, stdout=subprocess.DEVNULL)
+        more = {**os.environ, "LD_PRELOAD": str(work / "kills.so"), "STORE_FOLDER": str(folder), "STORE_FULL": str(work / f"{name}.full")}
+        self.line[name] = Process(lambda: self.starts(f"{name}.line", ["/usr/bin/python3", "-B", TOP / "tests/broker_line.py", self.words.osdp, work / f"{name}.port", work / f"{name}.did",
+                                                                       DEVICE_LATE, 5], stdin=subprocess.PIPE))
+        self.service[name] = Process(lambda: self.starts(f"{name}.service", program, env=more))
+
+    def all_programs(self):
+        return [self.broker, *self.line.values(), *self.service.values()]
+
+    def says(self, line, *words):
+        """Hands the devices of a line a line."""
+        process = self.line[line].process
+        try:
+            process.stdin.write((" ".join(map(str, words)) + "\n").encode())
+            process.stdin.flush()
+        except (AttributeError, OSError):
+            pass  # it isn't there
+
+    # what fails
+
+    def fails(self):
+        """Something fails, at random."""
+        line, pause = self.random.choice(LINES), self.random.randint(200, 2000)
+        stop = self.random.randint(3000, 1000 * self.words.longest)
+        name = self.random.choice(self.words.kinds.split(",") if self.words.kinds else KINDS)
+        self.did[name] += 1
+        if name == "kills broker":
+            self.broker.kills(pause)
+        elif name == "stops broker":
+            self.broker.stops(stop)
+        elif name == "kills service":
+            self.service[line].kills(pause)
+        elif name == "ends service":
+            self.service[line].ends()
+        elif name == "stops service":
+            self.service[line].stops(stop)
+        elif name == "kills line":
+            (self.work / f"{line}.port").unlink(missing_ok=True)  # else another program may get a terminal of that name
+            self.line[line].kills(pause)
+        elif name == "stops line":
+            self.line[line].stops(stop)
+        elif name == "restarts":
+            self.says(line, "restart", self.random.randrange(DEVICES))
+        elif name == "pulls":
+            self.says(line, "pull")
+        else:
+            (self.work / f"{line}.full").touch()
+            self.full_until[line] = moment() + pause
+
+    full_until = {}
+
+    def looks(self):
+        for each in self.all_programs():
+            each.looks()
+        for line, until in list(self.full_until.items()):
+            if moment() >= until:
+                (self.work / f"{line}.full").unlink(missing_ok=True)
+                del self.full_until[line]
+        self.client.looks()
+        for topic, payload, at in self.client.taken():
+            self.hears(topic, payload, at)
+
+    def heals(self):
+        """Nothing fails any more."""
+        for each in self.all_programs():
+            each.goes_on()
+        self.full_until = {line: 0 for line in LINES}
+
+    # the sender
+
+    def orders(self):
+        """A new key."""
+        number = len(self.keys)
+        key = Key(number, self.random.choice(LINES), self.random.randrange(DEVICES), self.random.randint(5, 15), moment())
+        self.keys[key.key] = key
+
+    def sends(self, key):
+        """Sends a key's message once more, or asks for the outcome where its time is over."""
+        left, pulse = (key.time - moment()) // 1000, self.client.pulses.get(key.line)
+        key.at = moment() + self.random.randint(300, 2000)
+        if left >= 1 and pulse:
+            for _ in range(self.random.choice((1, 1, 2))):
+                key.sends += 1
+                self.client.publishes(f"{key.topic}/order", {"key": key.key, "command": key.command, "pulse": pulse, "within": left}, left)
+        elif left < 0:
+            self.client.publishes(f"{key.topic}/ask", {"key": key.key})
+
+    def sends_wrong(self):
+        """Sends what is no order."""
+        number = 400000 + len(self.wrong)
+        fields, line, device = {"key": f"wrong-{number}", "command": f"OUT {number % 8}:5:{1 + number // 8}"}, self.random.choice(LINES), 1 + self.random.randrange(DEVICES)
+        self.wrong[fields["command"]] = fields["key"]
+        topic, kind = f"osdp/{line}/door-{device}/order", len(self.wrong) % 4
+        if kind == 0:
+            self.client.publishes(topic, fields)
+        elif kind == 1:
+            self.client.publishes(topic, fields, 20, retain=True)
+        elif kind == 2 and self.keys:
+            key = self.random.choice(list(self.keys.values()))
+            if key.was_known or key.outcomes:  # else it could come first
+                self.client.publishes(f"{key.topic}/order", {**fields, "key": key.key}, 20)
+        else:
+            self.client.publishes(topic, {**fields, "command": "move 9; rm -rf /\n"}, 20)
+
+    def cards(self):
+        """A card that no other is like."""
+        self.shown += 1
+        self.says(self.random.choice(LINES), "card", self.random.randrange(DEVICES), f"{self.shown:08X}")
+
+    # what comes
+
+    def hears(self, topic, payload, at):
+        message = json.loads(payload)
+        _, line, *rest = topic.split("/")
+        for fault in FORM.iter_errors({"topic": rest[-1], "payload": message}):
+            self.faults.append(f"the schema refuses {topic} {message}: {fault.message}")
+            break
+        if rest[-1] == "outcome":
+            self.hears_outcome(message)
+        elif rest[-1] == "event":
+            self.hears_event(line, message)
+        elif rest[-1] == "rejected":
+            self.rejected[message["why"].split(" of the events")[0][:40]] += 1
+            key = self.keys.get(message.get("key"))
+            if key and message["why"] == "the key isn't known" and moment() > key.time + END_OF_KEY:
+                key.is_unknown = True
+
+    def hears_outcome(self, message):
+        key = self.keys.get(message["key"])
+        if key is None:
+            self.faults.append(f"an outcome of no key: {message}")
+            return
+        key.outcomes[json.dumps(message, sort_keys=True)] = message
+
+    def hears_event(self, line, message):
+        place, number = (line, message["address"]), message["number"]
+        shape = {name: value for name, value in message.items() if name not in ("late", "age")}
+        before = self.events[place].setdefault(number, shape)
+        if before != shape:
+            self.faults.append(f"the event {place} {number} has two forms: {before} and {shape}")
+
+    def asks_for_gaps(self):
+        """Asks for the events that are missing before the last one, and for the one after it."""
+        for line in LINES:
+            for device in range(DEVICES):
+                found = self.events[line, 5 + device]
+                last = max(found, default=0)
+                first = next((number for number in range(1, last + 1) if number not in found), last + 1)
+                if first <= last or self.is_at_end:
+                    self.client.publishes(f"osdp/{line}/door-{device + 1}/ask", {"events": {"from": first, "to": min(max(last, first) + 20, first + 900)}})
+
+    is_at_end = False
+
+    # the day
+
+    def goes(self):
+        """Orders and cards, while all fails, and until each has its end. Whether all came to its end."""
+        words = self.words
+        next_order = next_card = next_wrong = next_fault = next_gap = moment() + 6000
+        while len(self.keys) < words.orders or self.shown < words.cards:
+            now = moment()
+            self.looks()
+            if now >= next_order and len(self.keys) < words.orders:
+                self.orders()
+                next_order = now + self.random.randint(0, 2 * words.pause)
+            if now >= next_card and self.shown < words.cards:
+                self.cards()
+                next_card = now + self.random.randint(0, 2 * words.pause)
+            if now >= next_wrong:
+                self.sends_wrong()
+                next_wrong = now + 8 * words.pause
+            if now >= next_fault:
+                self.fails()
+                next_fault = now + self.random.randint(500, words.faults)
+            if now >= next_gap:
+                self.asks_for_gaps()
+                next_gap = now + 5000
+            for key in [key for key in self.keys.values() if key.is_to_be_sent(now)]:
+                self.sends(key)
+            time.sleep(0.01)
+        return self.comes_to_end()
+
+    def comes_to_end(self):
+        self.heals()
+        self.is_at_end, next_gap, quiet = True, 0, moment()
+        end = time.monotonic() + SETTLES + self.words.longest + 40
+        count = 0
+        while time.monotonic() < end:
+            self.looks()
+            now = moment()
+            for key in [key for key in self.keys.values() if key.is_to_be_sent(now)]:
+                self.sends(key)
+            if now >= next_gap:
+                self.asks_for_gaps()
+                next_gap = now + 2000
+            if sum(map(len, self.events.values())) != count:
+                count, quiet = sum(map(len, self.events.values())), now
+            if all(key.is_over() for key in self.keys.values()) and now > quiet + 6000 and self.have_come():
+                return True
+            time.sleep(0.02)
+        return False
+
+    def ends(self):
+        self.client.ends()
+        for each in self.all_programs():
+            each.goes_on()
+            each.kills(0)
+
+    # what is asked of it
+
+    def asks(self, holds, what):
+        if not holds:
+            self.faults.append(what)
+
+    def log(self, line):
+        """What the devices of a line did."""
+        path = self.work / f"{line}.did"
+        return [each.split(" ", 3) for each in path.read_text().splitlines()] if path.exists() else []
+
+    def judges(self):
+        by_place = {(key.line, 5 + key.device, key.command): key for key in self.keys.values()}
+        acted, moments = Counter(), {}
+        for line in LINES:
+            for kind, address, at, *text in self.log(line):
+                if kind != "acted":
+                    continue
+                self.asks(text[0] not in self.wrong, f"a relay moved for what is no order: {text[0]}")
+                key = by_place.get((line, int(address), text[0]))
+                self.asks(key or text[0] in self.wrong, f"a relay moved for nothing: {line} {address} {text}")
+                if key:
+                    acted[key.key] += 1
+                    moments[key.key] = int(at)
+        for key in self.keys.values():
+            self.judges_key(key, acted[key.key], moments.get(key.key))
+        for line in LINES:
+            for device in range(DEVICES):
+                self.judges_events(line, 5 + device)
+
+    def judges_key(self, key, acted, at):
+        self.asks(len(key.outcomes) <= 1, f"{key.key} has several outcomes: {list(key.outcomes.values())}")
+        self.asks(key.is_over(), f"{key.key} has no outcome")
+        self.asks(acted <= 1, f"the relay of {key.key} moved {acted} times")
+        self.asks(at is None or at <= key.time + DEVICE_LATE, f"the relay of {key.key} moved {(at or 0) - key.time} ms after its time")
+        for message in key.outcomes.values():
+            least, most = {"settled": (1, 1), "in doubt": (0, 1)}.get(message["outcome"], (0, 0))
+            self.asks(least <= acted <= most, f"{key.key} is {message['outcome']}, and its relay moved {acted} times")
+        self.asks(key.outcomes or acted == 0, f"{key.key} isn't known, and its relay moved")
+
+    def runs(self, line, address):
+        """The cards that each run of a device has taken."""
+        runs = []
+        for words in self.log(line):
+            if words[0] == "begun" and int(words[1]) == address:
+                runs.append([])
+            if words[0] == "shown" and int(words[1]) == address:
+                runs[-1].append(words[3])
+        return runs
+
+    def have_come(self):
+        """Whether each card of the devices as they are now has come."""
+        return all({message["card"] for message in self.events[line, 5 + at].values()} >= set(self.runs(line, 5 + at)[-1]) for line in LINES for at in range(DEVICES))
+
+    def judges_events(self, line, address):
+        found = self.events[line, address]
+        asked = sorted(found)
+        self.asks(asked == list(range(1, len(asked) + 1)), f"the events of {line} {address} have a gap: {asked}")
+        came, seen = [], set()
+        for number in asked:
+            message = found[number]
+            self.asks(message["card"] not in seen or message["marked"], f"the event {line} {address} {number} comes twice and isn't marked")
+            self.twice += message["card"] in seen
+            self.marked_count += message["marked"]
+            if message["card"] not in seen:
+                came.append(message["card"])
+            seen.add(message["card"])
+        self.judges_runs(line, address, came, seen)
+
+    twice = marked_count = thrown = told = 0
+
+    def judges_runs(self, line, address, came, seen):
+        """Cards come in their order. Of each run of a device all come, but the last ones of one that lost power."""
+        runs = self.runs(line, address)
+        order = [card for run in runs for card in run if card in seen]
+        self.asks(order == came, f"the cards of {line} {address} come in another order: {came}")
+        for at, run in enumerate(runs):
+            missing = [card for card in run if card not in seen]
+            self.told += len(run) - len(missing)
+            self.thrown += len(missing)
+            is_tail = run[len(run) - len(missing):] == missing
+            self.asks(not missing or at < len(runs) - 1 and is_tail, f"cards of {line} {address} are missing: {missing} of {run}")
+
+
+def main():
+    parser = argparse.ArgumentParser()
+    parser.add_argument("osdp")
+    for name, value in (("--seed", 1), ("--orders", 120), ("--cards", 120), ("--longest", 5), ("--pause", 250), ("--faults", 2500)):
+        parser.add_argument(name, type=int, default=value)
+    parser.add_argument("--wrong", choices=list(FOUND))
+    parser.add_argument("--kinds", help="what fails, as kills service,stops line")
+    parser.add_argument("--keep", help="a folder for what is left")
+    words = parser.parse_args()
+    words.osdp = str(Path(words.osdp).resolve())
+    with tempfile.TemporaryDirectory(dir=words.keep) as folder:
+        if words.keep:
+            folder = tempfile.mkdtemp(dir=words.keep)
+        work = Path(folder)
+        subprocess.run(["cc", "-O1", "-shared", "-fPIC", "-o", work / "kills.so", TOP / "tests/kills.c", "-ldl"], check=True)
+        building = Building(words, work)
+        began = time.monotonic()
+        try:
+            building.asks(building.goes(), "not all came to its end")
+        finally:
+            building.ends()
+        building.judges()
+    return tells(building, words, time.monotonic() - began)
+
+
+def tells(building, words, seconds):
+    outcomes = Counter(next(iter(key.outcomes.values()))["outcome"] if key.outcomes else "not known" for key in building.keys.values())
+    print(f"seed {words.seed}, {seconds:.0f} s: {len(building.keys)} keys in {sum(key.sends for key in building.keys.values())} messages: "
+          + ", ".join(f"{name} {count}" for name, count in outcomes.most_common()))
+    print(f"{building.told} cards came, {building.thrown} were thrown away by {building.did['restarts']} restarts of devices and {building.did['kills line']} of lines, "
+          f"{building.marked_count} marked, {building.twice} twice; rejected {dict(building.rejected)}")
+    print("failed: " + ", ".join(f"{name} {count}" for name, count in sorted(building.did.items())))
+    if words.wrong:
+        found = [fault for fault in building.faults if re.search(FOUND[words.wrong], fault)]
+        print(f"without {words.wrong}: {len(found)} faults, as {found[:2]}" if found else f"broker: without {words.wrong} nothing is found; {building.faults[:5]}")
+        return 0 if found else 1
+    for fault in building.faults[:20]:
+        print(f"broker: {fault}")
+    return 1 if building.faults else 0
+
+
+if __name__ == "__main__":
+    sys.exit(main())
