@@ -46,6 +46,7 @@ def main():
     reader = Program("reader", "address", "5")
     panel.call(b"add 5 1\nbegin 1\n", 2)
     exchange(panel, reader, 400)
+    panel.call(b"tick\n", 1)  # the turn that brought `opened` ends
     spent = []
     for number in range(count):
         begun = time.perf_counter_ns()

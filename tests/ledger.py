@@ -10,7 +10,7 @@ import heapq
 import random
 import subprocess
 import sys
-from collections import Counter
+from collections import Counter, deque
 from pathlib import Path
 
 PROGRAM = str(Path(sys.argv[1]).resolve())
@@ -163,6 +163,7 @@ class Line:
         self.ledgers, self.steps = [Ledger() for _ in ADDRESSES], Counter()
         self.last, self.waiting, self.begins = [None, None], [0, 0], {}
         self.on_wire, self.opens = [False, False], [False, False]
+        self.next, self.numbers = [seed % 7, 0], [deque(), deque()]  # of each entry: the number of the next order, and those of the orders that have no end yet
         self.devices = [self.device(i) for i in range(2)]
         self.panel = None
         self.new_panel()
@@ -174,8 +175,9 @@ class Line:
 
     def new_panel(self):
         self.panel = Machine("panel", "check", "sum", "quiet-wait", str(QUIET), "sends", "2")
-        for address in ADDRESSES:
-            self.asks(f"add {address}")
+        self.numbers = [deque(), deque()]
+        for i, address in enumerate(ADDRESSES):
+            self.asks(f"add {address} {self.next[i]}")
         self.begins = {i: self.now for i in range(2)}
 
     def step(self, i, name, *what):
@@ -202,12 +204,33 @@ class Line:
         told, due = self.panel.call(self.now, line)
         self.due = None if due == "none" else int(due)
         for word, rest in told:
+            number = None
+            if word == "order":
+                number, word, rest = rest.split(" ", 2)
+            entry, _, text = rest.partition(" ")
             if word == "send":
                 self.sent(bytes.fromhex(rest))
-            elif word not in ("refused", "passed"):
-                number, _, text = rest.partition(" ")
-                self.reported(word, int(number) - 1, text)
+            elif word == "waits":
+                self.accepted(int(entry) - 1, int(number))
+            elif word not in ("refused", "passed", "burst"):
+                if number is not None:
+                    self.ended(int(entry) - 1, int(number))
+                self.reported(word, int(entry) - 1, text)
+        if ("burst", "") in told:
+            self.asks("write")
         return all(word != "refused" for word, _ in told)
+
+    def accepted(self, i, number):
+        """The numbers of an entry's orders count up, over restarts too."""
+        if number != self.next[i]:
+            raise Broken(f"an order has number {number}, and not {self.next[i]}")
+        self.next[i] += 1
+        self.numbers[i].append(number)
+
+    def ended(self, i, number):
+        """An order's end is told with its number, and the orders of an entry end in their turn."""
+        if not self.numbers[i] or self.numbers[i].popleft() != number:
+            raise Broken(f"an order ends with number {number}, which isn't that of the one in front")
 
     def sent(self, burst):
         i = ADDRESSES.index(burst[1])
@@ -224,11 +247,14 @@ class Line:
             self.on_wire[i] = False
             self.step(i, "settle", order, reply_of(answer))
         elif word in ("event", "maybe-again"):
-            self.step(i, "report", text)
-        elif word == "withdrawn":
+            _, since, event = text.split(" ", 2)
+            if int(since) > self.now:
+                raise Broken(f"an event was offered since {since}, at {self.now}")
+            self.step(i, "report", event)
+        elif word in ("withdrawn", "expired"):
             self.step(i, "withdraw", text)
         elif word == "lost":
-            order = text.partition(" ")[2]
+            order = text.partition(" ")[2].removeprefix("withheld").strip()
             self.on_wire[i] = self.opens[i] = False
             self.step(i, "doubt", order) if order else self.step(i, "close")
             self.begins[i] = self.now + self.chance.randrange(1, 1500)
@@ -272,7 +298,8 @@ class Line:
         i, what = self.chance.randrange(2), self.chance.random()
         if what < 0.45:
             text = self.chance.choice(ORDERS)
-            if self.asks(f"submit {i + 1} {text}"):
+            until = "never" if self.chance.random() < 0.7 else self.now + self.chance.randrange(2000)
+            if self.asks(f"submit {i + 1} {until} {text}"):
                 self.step(i, "submit", text)
         elif what < 0.82:
             text = self.chance.choice(CARDS)

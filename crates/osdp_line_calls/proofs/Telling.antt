@@ -1,10 +1,10 @@
 -- The reports of a panel, one after the other: each that is taken is one less.
-use Rattle.osdp_line_calls.proofs.Common.{◌≡◌, ◌+◌, ℕ, zero, suc, Bool, true, false, List, [], ◌∷◌, ◌++◌, length, drop, Option, Some, None, Result, Ok, Err, option_map, slice_get, refl, sym, ap, ◌∙◌, arith, append-nil, append_assoc, Command, Session}
+use Rattle.osdp_line_calls.proofs.Common.{◌≡◌, ◌+◌, ℕ, zero, suc, Bool, true, false, List, [], ◌∷◌, ◌++◌, length, drop, Option, Some, None, Result, Ok, Err, slice_get, refl, sym, ap, ◌∙◌, arith, append_assoc, Command, Session}
 use Rattle.std.specs.Prelude.{if◌then◌else◌, is_some, slice_set}
 use Rattle.std.specs.Option.{option_map_or}
 use Rattle.osdp_bus.specs.declared.entry.Entry.{Entry}
 use Rattle.osdp_bus.specs.declared.fault.BusFault.{BusFault}
-use Rattle.osdp_bus.specs.Buses.{BusState, device_of, has_report}
+use Rattle.osdp_bus.specs.Buses.{BusState, device_of}
 use Rattle.osdp_bus.specs.Machine.{after_next_report, after_withdraw_at, entry_withdraws, withdrawal_at, withdrawal_of, withdrawn_of}
 use Rattle.osdp_controller.specs.declared.report.Report.{Report}
 use Rattle.osdp_controller.specs.Held.{on_its_way}

@@ -1,5 +1,5 @@
 -- Until when an order may be sent: `never` is no number.
-use Rattle.osdp_line_calls.proofs.Common.{◌≡◌, ◌<◌, ◌^◌, ℕ, Bool, true, false, List, Some, codes, length, if◌then◌else◌, inr, refl, sym, ap, ◌∙◌, subst, arith, number, IsMoment, until_word, slice_index}
+use Rattle.osdp_line_calls.proofs.Common.{◌≡◌, ◌<◌, ◌^◌, ℕ, Bool, true, false, List, Some, codes, length, if◌then◌else◌, inr, refl, sym, ap, subst, arith, number, IsMoment, until_word, slice_index}
 use Rattle.std.specs.Fmt.{decimal}
 use Rattle.std.specs.Prelude.{◌==◌}
 use Rattle.std.proofs.lemmas.Bool.{eqb-true}

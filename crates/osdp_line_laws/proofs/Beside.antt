@@ -1,5 +1,5 @@
 -- What is heard beside a bus agrees with the bus, line by line.
-use Rattle.osdp_line_laws.proofs.Common.{◌≡◌, ◌∙◌, ap, sym, subst, refl, ℕ, zero, suc, Bool, true, false, max, List, [], ◌∷◌, ◌++◌, append-nil, length, replicate, Option, Some, None, arith, ◌↔◌, if◌then◌else◌, either_way, Entry, BusFault, BusState, Command, Report, device_of, seen, after_bytes, ends_run, add_refusal, after_begin_at, after_next_report, begin_refusal_at, changed_unless, entry_retargets, entry_submits, opened_by, retarget_refusal_at, submit_refusal_at, bus_ticks, Call, AddCall, BeginCall, SubmitCall, WithdrawCall, RetargetCall, OnBytes, OnSilence, TickCall, NextReport, after_call, sound_call, sound_calls, sound_new, SoundBus, PanelCall, IsNotOpen, Session, new_session, overhears, ordered, Tells, after_said}
+use Rattle.osdp_line_laws.proofs.Common.{◌≡◌, ◌∙◌, ap, sym, subst, refl, ℕ, zero, suc, Bool, true, false, max, List, [], ◌∷◌, append-nil, length, replicate, Option, Some, None, arith, ◌↔◌, if◌then◌else◌, either_way, Entry, BusFault, BusState, Command, Report, device_of, seen, after_bytes, ends_run, add_refusal, after_begin_at, after_next_report, begin_refusal_at, changed_unless, entry_retargets, entry_submits, opened_by, retarget_refusal_at, submit_refusal_at, bus_ticks, Call, AddCall, BeginCall, SubmitCall, WithdrawCall, RetargetCall, OnBytes, OnSilence, TickCall, NextReport, after_call, sound_call, sound_calls, sound_new, SoundBus, PanelCall, IsNotOpen, Session, new_session, overhears, ordered, Tells, after_said}
 use Rattle.osdp_bus.specs.declared.config.BusConfig.{BusConfig}
 use Rattle.osdp_bus.specs.Settings.{IsBusConfig}
 use Rattle.osdp_bus_laws.proofs.Moments.{moments_are_seen}
@@ -7,7 +7,7 @@ use Rattle.osdp_bus_laws.proofs.Silences.{bus_ends_its_runs}
 use Rattle.osdp_bus_laws.proofs.Staying.{BringsNothing, stays_begin, stays_call, stays_silent, stays_tick}
 use Rattle.osdp_line_calls.specs.declared.panel_call.PanelCall.TheVariants.{At, Add, Begin, Submit, Withdraw, Retarget, Bytes, Silence, Tick, Write}
 use Rattle.osdp_line_calls.specs.Passing.{Listening, Overheard, hears_begin, hears_bytes, hears_end, hears_nothing, hears_silence, is_open, sees}
-use Rattle.osdp_line_calls.proofs.PassedOver.{tells_all}
+use Rattle.osdp_line_calls.proofs.PassedOver as passed_over
 use Rattle.osdp_line_laws.proofs.OneSession.{open_in, shut_is}
 use Rattle.osdp_line_laws.proofs.Openness.{Agree, agree_add, agree_begin, agree_bytes, agree_silence, agree_submit, agree_taken, agree_tick, agree_withdraw, open_of, room_taken, with_report}
 use Rattle.osdp_line_laws.proofs.OfPanels.{done}
@@ -343,7 +343,7 @@ listens : (s : Session) → Well s → ListensBesideItsBus s
 listens s well = record {
   opened = shut s well;
   absent = λ entry none. known s well entry ∙ ap open_of none;
-  passed = λ p now entry d at unopened is_reply some. (tells_all p is_reply).0 some now d.controller.session ((shut s well entry d at).0 unopened);
+  passed = λ p now entry d at unopened is_reply some. (passed_over.tells_all p is_reply).0 some now d.controller.session ((shut s well entry d at).0 unopened);
   gap = well.hears.hears.gap;
   last = well.hears.hears.last;
   greatest = well.hears.hears.greatest;

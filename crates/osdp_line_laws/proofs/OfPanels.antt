@@ -1,11 +1,11 @@
 -- Lines to a panel as its calls.
-use Rattle.osdp_line_laws.proofs.Common.{◌≡◌, ◌∙◌, ◌⊎◌, ap, sym, subst, refl, ℕ, List, [], ◌∷◌, ◌++◌, None, inl, inr, append-nil, append_assoc, Speaks, Says, SaysNothing, PanelCall, CallFits, call_words, Answers, IsAnswered, refuses, due_line, Calls, Refused, calls_text, ordered}
+use Rattle.osdp_line_laws.proofs.Common.{◌≡◌, ◌∙◌, ◌⊎◌, ap, sym, subst, refl, ℕ, List, [], ◌∷◌, ◌++◌, None, inl, inr, Speaks, Says, SaysNothing, PanelCall, CallFits, call_words, Answers, IsAnswered, refuses, due_line, Calls, Refused, calls_text, ordered}
 use Rattle.osdp_line_calls.proofs.Telling.{none_left}
 use Rattle.osdp_line_calls.specs.declared.panel_call.PanelCall.TheVariants as line
-use Rattle.osdp_line_calls.specs.PanelSessions.{Called, IsDue, Session, answered, does, ended, most_reports, overhears, tells_all, then_tells}
+use Rattle.osdp_line_calls.specs.PanelSessions.{Called, IsDue, Session, answered, does, ended, most_reports, overhears, then_tells}
 use Rattle.osdp_line_laws.proofs.Lines.{of_all}
 use Rattle.osdp_line_laws.proofs.Reports.{some_taken}
-use Rattle.osdp_line_laws.specs.PanelLines.{burst_by, call_text, calls_of, takes_all}
+use Rattle.osdp_line_laws.specs.PanelLines.{calls_of, takes_all}
 use Rattle.osdp_line_laws.specs.PanelRuns.{burst_said}
 use Rattle.osdp_panel.specs.Orders.{PanelState}
 use Rattle.osdp_panel.specs.Telling.{tells}

@@ -1,5 +1,5 @@
 -- A run of lines to a panel, line by line.
-use Rattle.osdp_line_laws.proofs.Common.{◌≡◌, ◌∙◌, ap, subst, refl, ℕ, List, [], ◌∷◌, ◌++◌, Option, Some, None, inl, inr, heard, IsSaid, PanelCall, CallFits, call_words, IsAnswered, refuses, Called, IsDue, Session, answered, ended, overhears, due_line, RunsAreCalls, Tells, after_said, listening_after, moment_after, ordered, said_text}
+use Rattle.osdp_line_laws.proofs.Common.{◌≡◌, ◌∙◌, ap, subst, refl, ℕ, List, [], ◌∷◌, ◌++◌, Option, Some, None, inl, inr, heard, IsSaid, PanelCall, CallFits, call_words, IsAnswered, refuses, Called, IsDue, Session, answered, ended, overhears, due_line, RunsAreCalls, Tells, after_said, listening_after, moment_after, said_text}
 use Rattle.osdp_line_calls.specs.declared.panel_call.PanelCall.TheVariants as line
 use Rattle.osdp_line_calls.specs.PanelSessions.{does, most_reports}
 use Rattle.osdp_line_calls.specs.Passing.{Listening}

@@ -1,7 +1,7 @@
 -- The reports that a panel by lines takes after each call: which calls of the panel that is, and what it leaves.
-use Rattle.osdp_line_laws.proofs.Common.{◌≡◌, ◌∙◌, ap, sym, refl, ℕ, zero, suc, if◌then◌else◌, Bool, List, [], ◌∷◌, ◌++◌, Option, Some, None, Session, Report}
+use Rattle.osdp_line_laws.proofs.Common.{◌≡◌, ◌∙◌, ap, sym, refl, ℕ, zero, suc, if◌then◌else◌, false, List, [], ◌∷◌, ◌++◌, Option, Some, None, Session, Report}
 use Rattle.std.specs.Prelude.{is_some}
-use Rattle.osdp_bus.specs.Buses.{BusState, device_of, has_report}
+use Rattle.osdp_bus.specs.Buses.{device_of}
 use Rattle.osdp_bus.specs.Machine.{after_next_report}
 use Rattle.osdp_line_calls.proofs.Telling.{first_told, none_told, same_report}
 use Rattle.osdp_line_calls.specs.PanelSessions.{Called, settles, tells_all, tells_first, tells_some}
@@ -17,9 +17,9 @@ use Rattle.osdp_panel_laws.specs.Calls.{Call, NextReport, after_calls}
 -- ---- as calls of the panel
 
 -- what these calls leave and tell is what so many reports come to
-record AreTaken (c : Called) (calls : List Call) (burst : List ℕ) (s : Session) : Type 0 where
+pub record AreTaken (c : Called) (calls : List Call) (before : List ℕ) (s : Session) : Type 0 where
   pub panel : c.session.panel ≡ after_calls calls s.panel
-  pub text : c.text ≡ calls_text calls burst s.panel
+  pub text : c.text ≡ calls_text calls before s.panel
   pub burst : c.session.burst ≡ s.burst
   pub now : c.session.now ≡ s.now
 
