@@ -50,7 +50,7 @@ by_number : (used : Bool) (f : Option PanelFault) → (if used then Some panel.N
 by_number true f is = absurd cc
 by_number false f is = is
 
-by_orders : (o : Option Orders) (entry : ℕ) (command : Command) (b : BusState) → give_refusal_of entry command o b ≡ None → submit_refusal_at entry command b ≡ None
+pub by_orders : (o : Option Orders) (entry : ℕ) (command : Command) (b : BusState) → give_refusal_of entry command o b ≡ None → submit_refusal_at entry command b ≡ None
 by_orders None entry command b is = absurd cc
 by_orders (Some o) entry command b is =
     by_device (device_of entry b) entry command b

@@ -2,3 +2,4 @@ pub mod Common
 mod Entries
 pub mod Programs
 mod OwnOrder
+mod PanelWords

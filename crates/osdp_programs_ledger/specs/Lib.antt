@@ -1,2 +1,3 @@
 pub mod Programs
 pub mod OwnOrder
+pub mod PanelWords

@@ -7,6 +7,7 @@ ghost use Rattle.osdp_calls_instance.specs.Panels.{rattle_device, rattle_panel};
 ghost use Rattle.osdp_device.specs.Program.{program_after, program_answer};
 ghost use Rattle.osdp_device.specs.Status.{status_after, status_answer};
 ghost use Rattle.osdp_programs_ledger.specs.OwnOrder.{AnyProgramsKeep, OwnProgramsHoldOnce};
+ghost use Rattle.osdp_programs_ledger.specs.PanelWords.{AcceptedOrdersAreSteps, ExpiredOrdersAreSteps};
 ghost use Rattle.osdp_programs_ledger.specs.Programs.{ProgramsHoldOnce, RuledProgramsHoldOnce};
 
 use osdp_device::{DeviceStatus, ProgramAnswers};
@@ -40,6 +41,16 @@ pub fn panel_holds_once<H: Handler>()
     osdp_calls_ledger::ledger_holds_once::<H>();
     osdp_calls::calls_rule_suffices::<H>();
 }
+
+/// To the ledger an order that `submit` of a panel accepts is the step Submit, with its command and the next place. One that it refuses is no step.
+pub fn accepted_orders_are_steps<H: Handler>()
+    ensures { AcceptedOrdersAreSteps H.answer_of H.after }
+{}
+
+/// A report of a panel that an order has expired is the step Withdraw of the front order, with the command that is told, while none of its entry is on its way.
+pub fn expired_orders_are_steps<H: Handler>()
+    ensures { ExpiredOrdersAreSteps H.answer_of H.after }
+{}
 
 /// Whatever programs in C call, each entry of the panel keeps the ledger's promises, where these calls keep the premises. Losses of power are among the
 /// calls, and the premises are those of the calls of a line in use that these are: so no entry is added to a panel in use. A panel that is made anew lets a POLL
