@@ -1,8 +1,8 @@
 #!/usr/bin/env python3
 """How long a POLL exchange takes through both commands that speak lines: `bench/lines.py [EXCHANGES]`, 20000 if left out.
 
-A panel and a reader are joined here, without a port, at moments that are made up. An exchange is three calls of each end
-or fewer: the panel's `at` and `tick`, which send the POLL; the reader's `at` and `bytes`, which answer it; and the panel's `bytes`.
+A panel and a reader are joined here, without a port, at moments that are made up. An exchange is four calls of the panel
+and two of the reader: the panel's `at`, `tick` and `write`, which send the POLL; the reader's `at` and `bytes`, which answer it; and the panel's `bytes`.
 It prints the median and the 99th percentile of the time from the first write to the last answer, in microseconds."""
 import os
 import subprocess
@@ -32,7 +32,7 @@ class Program:
 
 def exchange(panel, reader, now):
     """What the panel sends at this moment, and what it is answered."""
-    sent = panel.call(b"at %d\ntick\n" % now, 2)
+    sent = panel.call(b"at %d\ntick\nwrite\n" % now, 3)
     if sent is None:
         return None
     answer = reader.call(b"at %d\nbytes %s\n" % (now, sent), 2)
@@ -44,7 +44,7 @@ def main():
     count = int(sys.argv[1]) if len(sys.argv) > 1 else 20000
     panel = Program("panel", "check", "crc", "poll-interval", "50")
     reader = Program("reader", "address", "5")
-    panel.call(b"add 5\nbegin 1\n", 2)
+    panel.call(b"add 5 1\nbegin 1\n", 2)
     exchange(panel, reader, 400)
     spent = []
     for number in range(count):

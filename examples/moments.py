@@ -1,4 +1,5 @@
 """The moment, and whether the program stood still: it was stopped (Ctrl-Z), nobody read what it prints (Ctrl-S), its disk was slow, or the computer slept."""
+import math
 import select
 import time
 
@@ -34,4 +35,4 @@ class Turns:
 
     def is_late(self):
         """Whether the turn began too long ago: a packet of it isn't written any more, and no order of it is done."""
-        return moment() - self.now > self.late
+        return self.late < math.inf and moment() - self.now > self.late

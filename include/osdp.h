@@ -728,8 +728,9 @@ enum {
  *     }
  *     if (osdp_panel_tick(&panel, now, &sends) == OSDP_OK && sends) {
  *         .. takes the moment anew, into now ..
- *         osdp_panel_write(&panel, now, &burst);
- *         .. writes the burst, whole, where it has a length, and flushes it ..
+ *         if (osdp_panel_write(&panel, now, &burst) == OSDP_OK) {
+ *             .. writes the burst, whole, where it has a length, and flushes it ..
+ *         }
  *     }
  */
 

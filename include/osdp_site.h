@@ -18,8 +18,9 @@
  *         .. waits for bytes, at most osdp_site_wait(&site, &panel, now, most); takes the moment, and reads all that is there ..
  *         if (osdp_site_turn(&site, &panel, bytes, length, now, take_report, NULL)) {
  *             .. takes the moment anew, into now ..
- *             osdp_panel_write(&panel, now, &burst);
- *             .. writes the burst, whole, where it has a length, and flushes it ..
+ *             if (osdp_panel_write(&panel, now, &burst) == OSDP_OK) {
+ *                 .. writes the burst, whole, where it has a length, and flushes it ..
+ *             }
  *         }
  *     }
  */

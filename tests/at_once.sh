@@ -24,7 +24,7 @@ speaks() {
 }
 
 words=(check sum)
-speaks panel due 'add 5' 'begin 1' 'no call' 'at 400' tick 'bytes 53851300004553494D010101000000010000E3' silence
+speaks panel due 'add 5 0' 'begin 1' 'no call' 'at 400' tick write 'bytes 53851300004553494D010101000000010000E3' silence
 words=(address 5)
 speaks reader waiting 'at 10' 'bytes 530508000061003F' 'no call' 'event KEYPAD 0 31' tick silence
 exit "$failed"

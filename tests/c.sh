@@ -78,8 +78,10 @@ mkdir "$work/stores" && build store tests/c/store.c examples/c/{store,kept,ledge
 passes tools/store_sql # each copy of the schema is the same
 build hands tests/c/hands.c "${checked[@]}" && passes "$work/hands"
 build texts tests/c/texts.c c/osdp_texts.c && passes "$work/texts"
-build structs tests/c/structs.c c/heap_malloc.c "$archive" && passes "$work/structs"
-build structs_checked tests/c/structs.c c/heap_malloc.c "$archive" "${checked[@]}" && passes "$work/structs_checked"
+for name in fields structs; do
+  build "$name" "tests/c/$name.c" c/heap_malloc.c "$archive" && passes "$work/$name"
+  build "${name}_checked" "tests/c/$name.c" c/heap_malloc.c "$archive" "${checked[@]}" && passes "$work/${name}_checked"
+done
 for name in ages between limits messages moments nulls orders; do
   build "$name" "tests/c/$name.c" c/heap_malloc.c "$archive" "${checked[@]}" && passes "$work/$name"
 done
@@ -87,7 +89,9 @@ done
 build monitor tests/c/monitor.c c/heap_malloc.c "${counted[@]}" "$archive" && passes "$work/monitor"
 build monitor_checked tests/c/monitor.c c/heap_malloc.c "${counted[@]}" "$archive" "${checked[@]}" && passes "$work/monitor_checked"
 
-build site tests/c/site.c c/heap_malloc.c c/osdp_site.c "$archive" "${checked[@]}" && passes "$work/site"
+for name in site device_turns; do
+  build "$name" "tests/c/$name.c" c/heap_malloc.c c/osdp_site.c "$archive" "${checked[@]}" && passes "$work/$name"
+done
 
 for heap in malloc pool; do
   build "session_$heap" "${session[@]}" "c/heap_$heap.c" "${counted[@]}" "$archive" && passes "$work/session_$heap"

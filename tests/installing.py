@@ -195,7 +195,7 @@ class Deaf:
 # What a panel's program does with a line that the panel tells: the calls that it makes.
 
 def opens(number=1, strike="0:5:30"):
-    return lambda line: [f"submit {number} OUT {strike}"] if line.startswith("event 1 RAW") else []
+    return lambda line: [f"submit {number} never OUT {strike}"] if line.startswith("event 1 RAW") else []
 
 
 CARD = (RAW, bytes.fromhex("00001A0012345640"))
@@ -219,7 +219,7 @@ class Capture:
         chance, losses, panel = random.Random(seed), random.Random(f"{seed} {loss}"), Lines(osdp, ["panel", *settings])
         coming, begins, now, due = [], {number: 0 for number, _ in enumerate(addresses, 1)}, 0, None
         for address in addresses:
-            panel.call(f"add {address}")
+            panel.call(f"add {address} 1")
         while now < SECONDS * 1000:
             now = max(now, min([*([] if due is None else [due]), *begins.values(), *(at for at, _ in coming)]))
             calls = deque([f"at {now}", *(f"begin {number}" for number, at in begins.items() if at <= now)])
@@ -230,8 +230,8 @@ class Capture:
             coming = [each for each in coming if each[0] > now]
             lines = deque(each for call in [*calls, "tick"] for each in panel.call(call))
             while lines:
-                line = lines.popleft()
-                lines.extend(each for call in decides(line) for each in panel.call(call))
+                line = re.sub(r"^order \d+ | since \d+", "", lines.popleft())
+                lines.extend(each for call in (["write"] if line == "burst" else decides(line)) for each in panel.call(call))
                 if line.startswith("send "):
                     burst = bytes.fromhex(line[5:])
                     self.bursts.append(("out", burst))
@@ -239,7 +239,7 @@ class Capture:
                     coming += [(now + at, bytes(each)) for at, each in heard if losses.random() >= loss]
                 elif line.startswith("due "):
                     due = None if line == "due none" else int(line[4:])
-                else:
+                elif line != "burst":
                     self.told.append(line)
                     begins |= {int(line.split()[1]): now + 1000} if line.startswith("lost") else {}
         panel.close()

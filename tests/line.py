@@ -11,6 +11,7 @@ up, or has no such rate, ends a program with a message and status 3.
 """
 import os
 import random
+import re
 import select
 import subprocess
 import sys
@@ -18,7 +19,7 @@ import time
 from collections import Counter, deque
 from pathlib import Path
 
-from terminals import Script, Terminal, commands, packet
+from terminals import Numbered, Script, Terminal, commands, packet
 
 TOP = Path(__file__).resolve().parent.parent
 ADDRESSES = (5, 6, 7)
@@ -92,7 +93,7 @@ class Account:
         self.issued, self.settled, self.unsettled, self.withdrawn, self.sessions, self.lost, self.closed = [], [], [], [], [[]], 0, 0
         for line in panel:
             name, which, *words = line.removeprefix("not ").split()
-            if which != str(number):
+            if which != str(number) or name == "waits":
                 continue
             text = " ".join(words)
             if name == "ordered":
@@ -107,7 +108,7 @@ class Account:
             elif name == "settled":
                 self.settled.append(text.split(" = ")[0])
             elif name in ("event", "maybe-again"):
-                self.sessions[-1].append(text)
+                self.sessions[-1].append(re.sub(r"^since \d+ ", "", text))
             elif name == "lost":
                 self.lost += 1
                 unsettled = words[2:] if words[1:2] == ["withheld"] else words[1:]
@@ -246,7 +247,7 @@ def main(osdp, seed="1", built=None):
                "vendor", "53494D", "serial", address, "room", 256, "gap", 15)
         for terminal, address in zip(relay.readers, ADDRESSES)
     ]
-    panel = Script(*panel_example, relay.panel.path, 9600, ",".join(map(str, ADDRESSES)), *panel_program, *TIMES.split())
+    panel = Numbered(*panel_example, relay.panel.path, 9600, ",".join(map(str, ADDRESSES)), *panel_program, *TIMES.split())
     try:
         run(relay, panel, readers, begun)
     finally:

@@ -44,8 +44,8 @@ expect 'too many sends' 2 '' $'osdp: bad words\nosdp: no setting: sends 256\n' p
 expect 'too many may wait' 2 '' $'osdp: bad words\nosdp: no setting: capacity 1025\n' panel capacity 1025 </dev/null
 expect 'a setting of the other program' 2 '' $'osdp: bad words\nosdp: no setting: address 5\n' panel address 5 </dev/null
 expect 'a word that is no text' 2 '' $'osdp: bad words\n' panel check $'\xff' </dev/null
-expect 'the later of two' 0 $'due none\ndue none\nrefused C3\ndue none\n' '' panel capacity 2 capacity 1 \
-  < <(printf 'add 5\nsubmit 1 ID 0\nsubmit 1 ID 0\n')
+expect 'the later of two' 0 $'due none\norder 0 waits 1\ndue none\nrefused C3\ndue none\n' '' panel capacity 2 capacity 1 \
+  < <(printf 'add 5 0\nsubmit 1 never ID 0\nsubmit 1 never ID 0\n')
 expect 'the last address' 0 '' '' reader address 126 </dev/null
 expect 'the configuration address' 2 '' $'osdp: bad words\nosdp: no setting: address 127\n' reader address 127 </dev/null
 expect 'an age above an hour' 2 '' $'osdp: bad words\nosdp: no setting: expire 3600001\n' reader expire 3600001 </dev/null
@@ -75,31 +75,40 @@ for which in panel reader; do
 done
 
 answers 'a session opens, a command is settled, an event is told, and it is lost with a command' panel check sum capacity 1 <<'TABLE'
-add 5 > due none
+add 5 0 > due none
 begin 1 > due 400
-submit 1 OUT 0:2:0 > due 400
+submit 1 never OUT 0:2:0 > order 0 waits 1;due 400
 at 400 > due 400
-tick > send 530508000061003F;due 600
+tick > burst;due 600
+write > send 530508000061003F;due 600
 at 410 > due 600
 bytes 53851300004553494D010101000000010000E3 > opened 1 PDID 53494D 1 1 1 1 0 0;due 410
-tick > send 53050B0001680002000032;due 610
+tick > due 410
+tick > burst;due 610
+write > send 53050B0001680002000032;due 610
 at 420 > due 610
-bytes 538507000140E0 > settled 1 OUT 0:2:0 = ACK;due 470
+bytes 538507000140E0 > order 0 settled 1 OUT 0:2:0 = ACK;due 420
+tick > due 470
 at 470 > due 470
-tick > send 5305070002603F;due 670
+tick > burst;due 670
+write > send 5305070002603F;due 670
 at 480 > due 670
-bytes 53850B0002530002313263 > event 1 KEYPAD 0 3132;due 530
-submit 1 ID 0 > due 480
-tick > send 530508000361003C;due 680
-bytes 53850800034104D8 > lost 1 number-refused ID 0;due none
+bytes 53850B0002530002313263 > event 1 since 470 KEYPAD 0 3132;due 480
+tick > due 530
+submit 1 never ID 0 > order 1 waits 1;due 480
+tick > burst;due 680
+write > send 530508000361003C;due 680
+bytes 53850800034104D8 > order 1 lost 1 number-refused ID 0;due 480
+tick > due none
 TABLE
 answers 'what a device that demands Secure Channel answers is told, until its session opens' panel check sum <<'TABLE'
-add 5 > due none
-add 6 > due none
+add 5 0 > due none
+add 6 0 > due none
 bytes 53850800004106D9 > passed over 1 NAK 6;due none
 begin 1 > due 400
 at 400 > due 400
-tick > send 530508000061003F;due 600
+tick > burst;due 600
+write > send 530508000061003F;due 600
 at 410 > due 600
 bytes 5385080000 > due 430
 bytes 4106D9 > passed over 1 NAK 6;due 600
@@ -107,14 +116,16 @@ bytes 5386090000410600D7 > passed over 2 NAK 6 00;due 600
 bytes 538507000342DC > passed over 1 seq 3 code 42;due 600
 bytes 530507000000A1 > due 600
 bytes 5387090000410600D6 > due 600
-bytes 53850800004104DB > lost 1 number-refused;due none
+bytes 53850800004104DB > lost 1 number-refused;due 410
+tick > due none
 begin 1 > due 810
 TABLE
 answers 'an opening has number 0, and passes over what comes with another; a moment that goes back is the greatest seen' panel check sum gap 20 <<'TABLE'
-add 5 > due none
+add 5 0 > due none
 begin 1 > due 400
 at 400 > due 400
-tick > send 530508000061003F;due 600
+tick > burst;due 600
+write > send 530508000061003F;due 600
 at 410 > due 600
 bytes 53851300024553494D010101000000010000E1 > passed over 1 seq 2 PDID 53494D 1 1 1 1 0 0;due 600
 bytes 538507000179A7 > passed over 1 seq 1 BUSY;due 600
@@ -130,18 +141,23 @@ at 515 > due 520
 bytes 06D9 > passed over 1 NAK 6;due 600
 TABLE
 answers 'an open session tells nothing of it, a lost one does again, and a run that is over is read to its end' panel check sum <<'TABLE'
-add 5 > due none
+add 5 0 > due none
 begin 1 > due 400
 at 400 > due 400
-tick > send 530508000061003F;due 600
+tick > burst;due 600
+write > send 530508000061003F;due 600
 bytes 538507000079A8 > due 450
 at 450 > due 450
-tick > send 530508000061003F;due 650
-bytes 53851300004553494D010101000000010000E3 > opened 1 PDID 53494D 1 1 1 1 0 0;due 500
+tick > burst;due 650
+write > send 530508000061003F;due 650
+bytes 53851300004553494D010101000000010000E3 > opened 1 PDID 53494D 1 1 1 1 0 0;due 450
+tick > due 500
 bytes 53850800004106D9 > due 500
 at 500 > due 500
-tick > send 53050700016040;due 700
-bytes 53850800014104DA > lost 1 number-refused;due none
+tick > burst;due 700
+write > send 53050700016040;due 700
+bytes 53850800014104DA > lost 1 number-refused;due 500
+tick > due none
 bytes 53850800004106D9 > passed over 1 NAK 6;due none
 bytes 53850A000802154106B8 > passed over 1 block 02154106;due none
 bytes 5385FF0053850800004106D9 > due 500
@@ -157,59 +173,73 @@ bytes none > due 540
 bytes 00 > passed over 1 NAK 6;due none
 TABLE
 answers 'an event that may have been told before' panel check sum <<'TABLE'
-add 5 > due none
+add 5 0 > due none
 begin 1 > due 400
 at 400 > due 400
-tick > send 530508000061003F;due 600
-bytes 53851300004553494D010101000000010000E3 > opened 1 PDID 53494D 1 1 1 1 0 0;due 450
+tick > burst;due 600
+write > send 530508000061003F;due 600
+bytes 53851300004553494D010101000000010000E3 > opened 1 PDID 53494D 1 1 1 1 0 0;due 400
+tick > due 450
 at 450 > due 450
-tick > send 53050700016040;due 650
-bytes 53850A00015300013198 > event 1 KEYPAD 0 31;due 500
+tick > burst;due 650
+write > send 53050700016040;due 650
+bytes 53850A00015300013198 > event 1 since 450 KEYPAD 0 31;due 450
+tick > due 500
 at 500 > due 500
-tick > send 5305070002603F;due 700
-bytes 53850A00025300013197 > event 1 KEYPAD 0 31;due 550
+tick > burst;due 700
+write > send 5305070002603F;due 700
+bytes 53850A00025300013197 > event 1 since 500 KEYPAD 0 31;due 500
+tick > due 550
 at 550 > due 550
-tick > send 5305070003603E;due 750
-bytes 53850800034104D8 > lost 1 number-refused;due none
+tick > burst;due 750
+write > send 5305070003603E;due 750
+bytes 53850800034104D8 > lost 1 number-refused;due 550
+tick > due none
 begin 1 > due 950
 at 950 > due 950
-tick > send 530508000061003F;due 1150
-bytes 53851300004553494D010101000000010000E3 > opened 1 PDID 53494D 1 1 1 1 0 0;due 1000
+tick > burst;due 1150
+write > send 530508000061003F;due 1150
+bytes 53851300004553494D010101000000010000E3 > opened 1 PDID 53494D 1 1 1 1 0 0;due 950
+tick > due 1000
 at 1000 > due 1000
-tick > send 53050700016040;due 1200
-bytes 53850A00015300013198 > maybe-again 1 KEYPAD 0 31;due 1050
+tick > burst;due 1200
+write > send 53050700016040;due 1200
+bytes 53850A00015300013198 > maybe-again 1 since 1000 KEYPAD 0 31;due 1000
+tick > due 1050
 at 1050 > due 1050
-tick > send 5305070002603F;due 1250
-bytes 53850A00025300013197 > event 1 KEYPAD 0 31;due 1100
+tick > burst;due 1250
+write > send 5305070002603F;due 1250
+bytes 53850A00025300013197 > event 1 since 1050 KEYPAD 0 31;due 1050
+tick > due 1100
 TABLE
 answers 'a command that waits is taken back, and a device goes to another address' panel check sum capacity 1 <<'TABLE'
-add 5 > due none
-submit 1 COMSET 7 9600 > due none
+add 5 0 > due none
+submit 1 never COMSET 7 9600 > order 0 waits 1;due none
 retarget 1 6 > refused B3;due none
-withdraw 1 > withdrawn 1 COMSET 7 9600;due none
+withdraw 1 > order 0 withdrawn 1 COMSET 7 9600;due none
 withdraw 1 > due none
 retarget 1 6 > due none
-add 6 > refused B3;due none
+add 6 0 > refused B3;due none
 TABLE
 answers 'each refusal, and lines that are none' panel check sum capacity 1 <<'TABLE'
-add 127 > refused B5;due none
-add 5 > due none
-add 5 > refused B3;due none
+add 127 0 > refused B5;due none
+add 5 0 > due none
+add 5 0 > refused B3;due none
 begin 2 > refused B4;due none
 withdraw 2 > refused B4;due none
 retarget 2 5 > refused B4;due none
-submit 2 ID 0 > refused B4;due none
-submit 1 POLL > refused C4;due none
-submit 1 COMSET 127 9600 > refused B6;due none
-submit 2 COMSET 255 9600 > refused B4;due none
-submit 1 ID 0 > due none
-submit 1 ID 0 > refused C3;due none
+submit 2 never ID 0 > refused B4;due none
+submit 1 never POLL > refused C4;due none
+submit 1 never COMSET 127 9600 > refused B6;due none
+submit 2 never COMSET 255 9600 > refused B4;due none
+submit 1 never ID 0 > order 0 waits 1;due none
+submit 1 never ID 0 > refused C3;due none
 begin 1 > due 400
 begin 1 > refused C5;due 400
 begin 0 > refused line;due 400
-add 128 > refused line;due 400
+add 128 0 > refused line;due 400
 tick 1 > refused line;due 400
-submit 1 NOTHING > refused line;due 400
+submit 1 never NOTHING > refused line;due 400
 at 007 > refused line;due 400
 silence > due 400
 TABLE
@@ -259,8 +289,8 @@ fail_all() {
 
 words=(panel check crc capacity 2)
 {
-  printf 'add 5\nadd 6\nadd 5\nbegin 1\nbegin 2\nsubmit 1 OUT 0:2:0\nsubmit 1 TEXT 0 1 0 1 1 48\nsubmit 1 ID 0\nwithdraw 1\n'
-  printf 'at 400\ntick\nbytes 53\nat 700\ntick\nat 900\ntick\nat 1100\ntick\nretarget 1 9\nno call\n'
+  printf 'add 5 0\nadd 6 0\nadd 5 0\nbegin 1\nbegin 2\nsubmit 1 never OUT 0:2:0\nsubmit 1 500 TEXT 0 1 0 1 1 48\nsubmit 1 never ID 0\nwithdraw 1\n'
+  printf 'at 400\ntick\nwrite\nbytes 53\nat 700\ntick\nwrite\nat 900\ntick\nat 1100\ntick\nretarget 1 9\nno call\n'
 } >"$work/in"
 fail_all
 

@@ -92,6 +92,12 @@ def sent(answer):
     return [bytes.fromhex(line.split()[1]) for line in answer if line.startswith("send ")]
 
 
+def ticks(panel):
+    """What a panel answers to a tick, and to the write of a burst that is to go out then."""
+    answer = panel.call("tick")
+    return [*answer, *panel.call("write")] if "burst" in answer else answer
+
+
 class Line:
     """A panel, readers and a listener on one line."""
 
@@ -101,7 +107,7 @@ class Line:
         self.readers = [Program("reader", [PROGRAM, "address", str(address)]) for address in addresses]
         self.listener, self.counted = Listener(), Counted()
         for index, address in enumerate(addresses, 1):
-            self.panel.call(f"add {address}")
+            self.panel.call(f"add {address} 1")
             self.panel.call(f"begin {index}")
 
     def say(self, burst, ends):
@@ -126,7 +132,7 @@ class Line:
     def round(self):
         """What is due at the panel, and what the readers answer to it."""
         self.panel.call(f"at {self.now}")
-        answer = self.panel.call("tick")
+        answer = ticks(self.panel)
         for burst in sent(answer):
             self.now += 5
             for reply in sent(self.say(burst, self.readers)):
@@ -135,7 +141,7 @@ class Line:
         due = answer[-1].split()[1] if answer[-1].startswith("due ") else "none"
         if not due.isdigit():
             self.panel.call(f"at {self.now}")
-            due = self.panel.call("tick")[-1].split()[1]
+            due = ticks(self.panel)[-1].split()[1]
         self.now = max(self.now + 30, int(due) if due.isdigit() else 0)
 
     def run(self, rounds):
@@ -147,7 +153,7 @@ class Line:
             elif happens < 0.15:
                 reader.call(self.chance.choice(("busy on", "busy off")))
             elif happens < 0.25:
-                self.panel.call(f"submit {self.chance.randint(1, len(self.readers))} OUT 0:{self.chance.randint(1, 2)}:0")
+                self.panel.call(f"submit {self.chance.randint(1, len(self.readers))} never OUT 0:{self.chance.randint(1, 2)}:0")
             elif happens < 0.3:
                 for index in range(1, len(self.readers) + 1):
                     self.panel.call(f"begin {index}")
@@ -181,14 +187,14 @@ def judge_good_line(seed):
 def judge_other_answer():
     """A reader of this script answers a repeat anew: it is accused before the panel's next packet."""
     panel, listener, now = Program("panel", [PROGRAM, "check", "sum"]), Listener(), 0
-    panel.call("add 5")
+    panel.call("add 5 1")
     panel.call("begin 1")
 
     def next_burst():
         nonlocal now
         for _ in range(100):
             panel.call(f"at {now}")
-            answer = panel.call("tick")
+            answer = ticks(panel)
             if sent(answer):
                 listener.hear(sent(answer)[0])
                 return sent(answer)[0]

@@ -282,6 +282,37 @@ def killed_in_doubt(folder):
         line.close()
 
 
+def numbers_go_on(folder):
+    """The panel is killed with an order on the wire: its number is told in doubt at the next start, and the numbers go on. The store has each order by its number, with its last moment and its end."""
+    keep = Path(folder) / "numbers"
+    line = opened_line(1, keep=keep)
+    line.order("5 OUT 0:2:1")
+    asks(line.run(lambda: "order 1 settled 5 OUT 0:2:1 = ACK" in line.numbered, 5), f"numbers: the first order isn't settled: {line.numbered[-3:]}")
+    line.loses = lambda way, burst: burst[5] == OUT
+    line.order("5 OUT 0:2:2")
+    asks(line.run(lambda: any(burst[5] == OUT and burst[8] == 2 for _, burst in line.bursts), 5), "numbers: the second order doesn't go out")
+    asks(stores.rows(keep, "SELECT number, state FROM orders") == [(1, "settled"), (2, "open")], f"numbers: the store has {stores.rows(keep, 'SELECT number, state FROM orders')}")
+    line.stop_panel()
+    line.loses = lambda way, burst: False
+    line.add_panel([5], keep=keep)
+    asks("order 2 in doubt 5 OUT 0:2:2: the panel ended before it knew what became of it; it was done or not" in line.numbered, f"numbers: not told: {line.numbered[-3:]}")
+    asks(line.run(line.all_open, 20), "numbers: the session doesn't open")
+    line.panel.lasts = None
+    line.order("5 OUT 0:2:3")
+    line.order("5 OUT x")
+    line.order("5 OUT 300:2:0")
+    asks(line.run(lambda: "order 3 settled 5 OUT 0:2:3 = ACK" in line.numbered, 5), f"numbers: they don't go on: {line.numbered[-3:]}")
+    line.panel.lasts = 300
+    line.loses = lambda way, burst: burst[5] == OUT
+    line.order("5 OUT 0:2:4")
+    line.order("5 OUT 0:2:5")
+    asks(line.run(lambda: any("withheld OUT 0:2:4" in told for told in line.told) and any(told.startswith("expired 5 OUT 0:2:5") for told in line.told), 10), f"numbers: none is too old: {line.told[-4:]}")
+    found = stores.rows(keep, "SELECT number, text, state, answer, until = 9223372036854775807, told FROM orders ORDER BY number")
+    asks(found == [(1, "OUT 0:2:1", "settled", "ACK", 0, 1), (2, "OUT 0:2:2", "doubt", None, 0, 1), (3, "OUT 0:2:3", "settled", "ACK", 1, 1), (4, "OUT 0:2:4", "doubt", None, 0, 1),
+                   (5, "OUT 0:2:5", "back", "expired", 0, 1)], f"numbers: the store has {found}")
+    line.close()
+
+
 def another_device(folder):
     """Another device stands where one was: it is told, and gets no order until it is accepted. The file knows it after a restart too."""
     keep = Path(folder) / "another"
@@ -396,6 +427,7 @@ def main(path):
     with tempfile.TemporaryDirectory() as folder:
         swapped_places(folder)
         killed_in_doubt(folder)
+        numbers_go_on(folder)
         another_device(folder)
         other_at_one_place(folder)
         bad_files(folder)

@@ -80,6 +80,8 @@ BAD_WORDS = (
     ["--nonsense", "PORT", "9600", "show"], ["--address", "127", "PORT", "9600", "show"], ["--address", "x", "PORT", "9600", "show"], ["--every", "0", "PORT", "9600", "monitor"],
     ["--size", "0", "PORT", "9600", "trace", "/tmp/a"], ["--set-rate", "12345", "PORT", "9600", "find"], ["PORT", "12345", "show"], ["--all", "PORT", "9600", "find"], ["--live", "PORT", "9600", "show"],
     ["--size", "5", "PORT", "9600", "panel", "5"], ["--osdpcap", "PORT", "9600", "reader", "5"],
+    ["--until", "99", "PORT", "9600", "panel", "5"], ["--until", "ever", "PORT", "9600", "panel", "5"], ["--until", "5000", "PORT", "9600", "reader", "5"], ["--late", "5000", "PORT", "9600", "panel", "5"],
+    ["--late", "never", "PORT", "9600", "reader", "5"],
 )
 BAD_PORTS = (
     ["/nowhere/port", "9600", "show"], ["/dev/null", "9600", "panel", "5"], ["/etc/passwd", "9600", "monitor"], ["/", "9600", "show"], ["nonsense://x", "9600", "show"],

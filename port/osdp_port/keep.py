@@ -138,7 +138,7 @@ class PanelPlaces(Kept):
 
     def next_order(self, name):
         """The number that the next order of a device gets."""
-        return 1 + (self.store.value("SELECT max(number) FROM orders WHERE device = ?", name) or 0)
+        return self.store.next_order(name)
 
     def does(self, write, *values):
         """Writes something, and ends the transaction. Why it isn't stored; none where it is."""
@@ -152,11 +152,11 @@ class PanelPlaces(Kept):
     def gives(self, name, number, text, until):
         """Stores an order that is about to be given, by the number that it will have, and the milliseconds for which it may go out; none where it may for ever."""
         last = FOREVER if until is None else moment() + until
-        return self.does(self.store.write, "INSERT INTO orders (device, number, text, until) VALUES (?, ?, ?, ?)", name, number, text, last)
+        return self.does(self.store.gives, name, number, text, last)
 
     def forgets(self, name, number):
         """An order wasn't taken: the next one gets its number."""
-        return self.does(self.store.write, "DELETE FROM orders WHERE device = ? AND number = ?", name, number)
+        return self.does(self.store.forgets, name, number)
 
     def ends(self, name, number, state, answer=None):
         """Stores the end of an order, which is told in the same turn."""

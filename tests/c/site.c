@@ -1,7 +1,7 @@
 /* A site (osdp_site.h) over a panel and a device of this library, which are joined in memory: what is refused; that states come once after each opening, the latest of
  * each, and in their order, also where the panel has room for one command; that a state which is longer than the panel's room keeps none waiting; that orders for a
  * time are not repeated; when sessions begin; that after a turn which comes late no order goes out whose last moment has passed, and that a card tells when it was asked
- * for; and that a moment which lies too far ahead takes nothing back, and lets a device's old events go. */
+ * for; and that a moment which lies too far ahead takes nothing back. */
 #include <string.h>
 
 #include "demands.h"
@@ -398,22 +398,6 @@ static void turns(void)
     }
 }
 
-/* A device reads the packet that stands in a run after noise once that run is over, stops before its command, and answers it within the same turn. */
-static void answers_after_a_gap(void)
-{
-    static const uint8_t noise[] = { 0x53, 5, 40, 0, 0, 0x53, 5, 11, 0, 0, OSDP_OUT, 0, 2, 0, 0, 0x33 };
-    const struct osdp_device_config reader = { .address = 5, .capacity = 2, .gap = 20 };
-    const uint8_t off[1] = { 0 };
-    osdp_device hearing = { 0 };
-    demand(osdp_device_new(&hearing, &reader, NULL, 0) == OSDP_OK && osdp_device_set_outputs(&hearing, off, 1) == OSDP_OK);
-    length = 0;
-    osdp_device_turn(&hearing, noise, sizeof noise, 1000, take_answer, answered);
-    demand(length == 0);
-    osdp_device_turn(&hearing, noise, 0, 1100, take_answer, answered);
-    demand(length > 5 && answered[5] == OSDP_ACK);
-    demand(osdp_device_free(&hearing) == OSDP_OK);
-}
-
 /* At a moment that lies too far ahead nothing is taken back, and the session stays due: it begins once the clock is right. */
 static void keeps_what_waits(void)
 {
@@ -436,28 +420,6 @@ static void keeps_what_waits(void)
     demand(osdp_site_next_deadline(&its) == UINT64_MAX && osdp_panel_is_closed(&far, entry, &closed) == OSDP_OK && closed == 0);
     demand(osdp_panel_waiting(&far, entry, &waiting) == OSDP_OK && waiting == 0);
     demand(osdp_panel_free(&far) == OSDP_OK);
-}
-
-/* After a moment that lies too far ahead an event that has become too old leaves before a panel is answered, which would be told it. */
-static void lets_go(void)
-{
-    static struct osdp_message event;
-    static const uint8_t asks[] = { 0x53, 5, 8, 0, 0, OSDP_ID, 0, 0x3F }; /* a panel begins anew */
-    const struct osdp_device_config reader = { .address = 5, .capacity = 2, .gap = 20 };
-    const uint64_t late = 1000 + 2 * 86400000ull;
-    osdp_device sleeper = { 0 };
-    uint32_t expired;
-    demand(osdp_device_new(&sleeper, &reader, NULL, 0) == OSDP_OK);
-    osdp_device_turn(&sleeper, asks, 0, 1000, take_answer, answered);
-    demand(osdp_device_event_text(&sleeper, "KEYPAD 0 31", 11) == OSDP_OK);
-    length = 0;
-    demand(osdp_device_expire_event(&sleeper, late, 30000, &expired, &event) == OSDP_MOMENT_TOO_FAR);
-    osdp_device_turn(&sleeper, asks, sizeof asks, late, take_answer, answered);
-    demand(length == 0);
-    demand(osdp_device_expire_event(&sleeper, late, 30000, &expired, &event) == OSDP_OK && expired == OSDP_EXPIRED_WITHDRAWN);
-    osdp_device_turn(&sleeper, asks, sizeof asks, late, take_answer, answered);
-    demand(length > 5 && answered[5] == OSDP_PDID);
-    demand(osdp_device_free(&sleeper) == OSDP_OK);
 }
 
 /* Both ends, and a site. The panel has room for one command, of so many bytes. */
@@ -510,9 +472,7 @@ int main(void)
     is_submitted_once();
     waits();
     turns();
-    answers_after_a_gap();
     keeps_what_waits();
-    lets_go();
     unmake();
     lengths();
     return 0;

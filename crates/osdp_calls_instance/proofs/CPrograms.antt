@@ -3,24 +3,21 @@ use Rattle.osdp_calls_instance.proofs.Common.{◌≡◌, ℕ, Bool, true, false,
 use Rattle.osdp_msg.specs.NakReasons.{reason_of}
 use Rattle.osdp_msg.specs.declared.fault.MsgFault.{MsgFault}
 use Rattle.osdp_bus.specs.declared.fault.BusFault.TheVariants as fault
-use Rattle.osdp_bus_laws.specs.Calls as bus
 use Rattle.osdp_device.specs.Ages.{after_expiry}
 use Rattle.osdp_device.specs.declared.program.ProgramAnswers.{ProgramAnswers}
 use Rattle.osdp_device.specs.declared.question.Question.{Question}
 use Rattle.osdp_device.specs.declared.question.Question.TheVariants.{Answered, Asked, NotAsked}
-use Rattle.osdp_bus.specs.Machine.{AddEnds}
-use Rattle.osdp_bus_laws.proofs.Ordering.{order_made}
+use Rattle.osdp_panel.specs.Panels.{AddEnds, after_add_at, new_panel}
 use Rattle.osdp_reader.specs.declared.handler.Answer.TheVariants as answer
 use Rattle.osdp_c_values.specs.Addresses.{device_address}
 use Rattle.osdp_c_values.specs.Calls.{Done}
 use Rattle.osdp_c_values.specs.Clocks.{accepts, new_clock, sees}
 use Rattle.osdp_c_values.specs.Panels as panel
 use Rattle.osdp_c_values.specs.Readers as reader
-use Rattle.osdp_c_values.specs.Settings.{bus_config_if, bus_config_in, bus_config_of, bus_config_with, default_room, limit_of}
+use Rattle.osdp_c_values.specs.Settings.{bus_config_of, bus_config_with, limit_of}
 use Rattle.osdp_c_values.specs.Statuses.{number}
-use Rattle.osdp_calls.specs.Lines.{bus_with}
-use Rattle.osdp_msg.specs.declared.limits.Room.{Room}
-use Rattle.osdp_panel.specs.Panels.{panel_config}
+use Rattle.osdp_panel.specs.Orders.{PanelState}
+use Rattle.osdp_panel_laws.specs.Calls as calls
 use Rattle.osdp_c_values.specs.declared.machine.PanelMachine.{PanelMachine}
 use Rattle.osdp_c_values.specs.declared.machine.ReaderMachine.{ReaderMachine}
 use Rattle.osdp_c_values.specs.declared.settings.PanelSettings.{PanelSettings}
@@ -28,112 +25,97 @@ use Rattle.osdp_c_values.specs.declared.states.StateList.{StateList}
 use Rattle.osdp_c_values.specs.declared.status.Status.{Status}
 use Rattle.osdp_c_values.specs.declared.status.Status.TheVariants as status
 use Rattle.arrayvec.specs.ArrayVec.{ArrayVec}
-use Rattle.osdp_calls_instance.proofs.LinePrograms.{bus_same, own_device, panels_own}
+use Rattle.osdp_calls_instance.proofs.Panels.{handles_are_calls, own_device}
 use Rattle.osdp_calls_instance.specs.CPrograms as c
-use Rattle.osdp_calls_instance.specs.CPrograms.{AddsEach, AddsInUse, DeviceCall, MakesAnew, MakesAnewBy, PanelCall, answer_calls, c_device, c_panel, device_call, device_calls, event_calls, event_read, expiry_calls, if_read, leaving_call, panel_call, panel_calls, settle_calls, settles_by, submitted, told_states}
+use Rattle.osdp_calls_instance.specs.CPrograms.{AddsEach, AddsInUse, DeviceCall, MakesAnew, MakesAnewBy, PanelCall, PanelCallFits, answer_calls, at_addresses, c_device, c_handle, c_panel, calls_for_c, device_call, device_calls, event_calls, event_read, expiry_calls, if_read, leaving_call, panel_call, settle_calls, settles_by, submitted, told_states}
+use Rattle.osdp_calls_instance.specs.Panels.{Calls, EachFits, FirstEntry, adding, addresses_of, after_each_of_panel}
 
 -- ---- a panel
 
-one_accepted : (H : Type 0) (ok : Bool) (calls : List bus.Call) → Each (IsOfPanel {H = H}) (cond ok (map OfPanel calls) [])
-one_accepted H true calls = panels_own H calls
-one_accepted H false calls = tt
+one_accepted : (ok : Bool) (call : calls.Call) (p : PanelState) → EachFits (cond ok (Calls call ∷ []) []) p
+one_accepted true call p = (tt, tt)
+one_accepted false call p = tt
 
-one_submitted : (H : Type 0) (entry : ℕ) (o : Option Command) → Each (IsOfPanel {H = H}) (submitted entry o)
-one_submitted H entry None = tt
-one_submitted H entry (Some command) = panels_own H (bus.orders entry command)
+one_submitted : (entry : ℕ) (o : Option Command) (until : ℕ) (p : PanelState) → EachFits (submitted entry o until) p
+one_submitted entry None until p = tt
+one_submitted entry (Some command) until p = (tt, tt)
 
-panel_end : (H : Type 0) (call : PanelCall) (m : PanelMachine) → Each (IsOfPanel {H = H}) (panel_calls call m)
-panel_end H (c.Begin entry now) m = one_accepted H (accepts now m.clock) (bus.Begin entry now ∷ [])
-panel_end H (c.Submit entry code body) m = one_submitted H entry (if_read (command_of code body))
-panel_end H (c.SubmitText entry read) m = one_submitted H entry read
-panel_end H (c.Bytes bytes now) m = one_accepted H (accepts now m.clock) (bus.OnBytes bytes now ∷ [])
-panel_end H (c.PanelSilence now) m = one_accepted H (accepts now m.clock) (bus.OnSilence now ∷ [])
-panel_end H (c.PanelTick now) m = one_accepted H (accepts now m.clock) (bus.Tick now ∷ [])
-panel_end H (c.LooksAt entry) m = tt
-panel_end H c.Looks m = tt
-panel_end H _ m = (tt, tt)
+panel_fits : (call : PanelCall) (m : PanelMachine) → PanelCallFits call m → EachFits (calls_for_c call m) m.panel
+panel_fits (c.Begin entry now) m fits = one_accepted (accepts now m.clock) (calls.Begin entry now) m.panel
+panel_fits (c.Submit entry code body until) m fits = one_submitted entry (if_read (command_of code body)) until m.panel
+panel_fits (c.SubmitText entry read until) m fits = one_submitted entry read until m.panel
+panel_fits (c.Bytes bytes now) m fits = one_accepted (accepts now m.clock) (calls.Hear bytes now) m.panel
+panel_fits (c.PanelSilence now) m fits = one_accepted (accepts now m.clock) (calls.Silence now) m.panel
+panel_fits (c.PanelTick now) m fits = one_accepted (accepts now m.clock) (calls.Tick now) m.panel
+panel_fits (c.PanelWrite now) m fits = one_accepted (accepts now m.clock) (calls.Write now) m.panel
+panel_fits (c.LooksAt entry) m fits = tt
+panel_fits (c.LooksAtNumber entry) m fits = tt
+panel_fits c.Looks m fits = tt
+panel_fits (c.PanelAnew config limit entries) m fits = (fits, tt)
+panel_fits _ m fits = (tt, tt)
 
 -- a call at a moment
-at_moment : (H : Type 0) (ok : Bool) (calls : List bus.Call) (after : BusState) (m : PanelMachine) → after ≡ bus.after_calls calls m.bus
-    → cond ok after m.bus ≡ bus_after_each {H = H} (cond ok (map OfPanel calls) []) m.bus
-at_moment H true calls after m is = is ∙ bus_same H calls m.bus
-at_moment H false calls after m is = refl
-
-abbrev if_moment : Bool → ℕ → (BusState → Done BusState) → PanelMachine → Done PanelMachine
+abbrev if_moment : Bool → ℕ → (PanelMachine → Done PanelMachine) → PanelMachine → Done PanelMachine
 if_moment ok now call m =
     cond ok (record {
-      status = (call m.bus).status;
-      machine = record m { bus = (call m.bus).machine; clock = panel.sees_if_done now (call m.bus).status m.clock };
+      status = (call m).status;
+      machine = record (call m).machine { clock = panel.sees_if_done now (call m).status m.clock };
     }) (record { status = status.MomentTooFar; machine = m })
 
-moment_bus : (ok : Bool) (now : ℕ) (call : BusState → Done BusState) (m : PanelMachine)
-    → (if_moment ok now call m).machine.bus ≡ cond ok (call m.bus).machine m.bus
-moment_bus true now call m = refl
-moment_bus false now call m = refl
+moment_is : (ok : Bool) (now : ℕ) (does : PanelMachine → Done PanelMachine) (call : calls.Call) (m : PanelMachine)
+    → (does m).machine.panel ≡ calls.after_call call m.panel
+    → (if_moment ok now does m).machine.panel ≡ after_each_of_panel (cond ok (Calls call ∷ []) []) m.panel
+moment_is true now does call m is = is
+moment_is false now does call m is = refl
 
-submits_so : (H : Type 0) (entry : ℕ) (o : Option Command) (b : BusState)
-    → (panel.submits_text entry o b).machine ≡ bus_after_each {H = H} (submitted entry o) b
-submits_so H entry None b = refl
-submits_so H entry (Some command) b = order_made entry command b ∙ bus_same H (bus.orders entry command) b
+submits_so : (entry : ℕ) (o : Option Command) (until : ℕ) (p : PanelState)
+    → (panel.submits_text entry o until p).machine ≡ after_each_of_panel (submitted entry o until) p
+submits_so entry None until p = refl
+submits_so entry (Some command) until p = refl
 
-reads_so : (H : Type 0) (entry : ℕ) (r : Result Command MsgFault) (b : BusState)
-    → (panel.submits_read entry r b).machine ≡ bus_after_each {H = H} (submitted entry (if_read r)) b
-reads_so H entry (Ok command) b = submits_so H entry (Some command) b
-reads_so H entry (Err fault) b = refl
+reads_so : (entry : ℕ) (r : Result Command MsgFault) (until : ℕ) (p : PanelState)
+    → (panel.submits_read entry r until p).machine ≡ after_each_of_panel (submitted entry (if_read r) until) p
+reads_so entry (Ok command) until p = refl
+reads_so entry (Err fault) until p = refl
 
-unless_bus : (o : Option BusFault) (m next : PanelMachine) → (changed_unless o m next).bus ≡ changed_unless o m.bus next.bus
-unless_bus None m next = refl
-unless_bus (Some f) m next = refl
+panel_is : (call : PanelCall) (m : PanelMachine) → (panel_call call m).machine.panel ≡ after_each_of_panel (calls_for_c call m) m.panel
+panel_is (c.Begin entry now) m =
+    moment_is (accepts now m.clock) now (panel.on_panel (panel.begins entry now)) (calls.Begin entry now) m refl
+panel_is (c.Submit entry code body until) m = reads_so entry (command_of code body) until m.panel
+panel_is (c.SubmitText entry read until) m = submits_so entry read until m.panel
+panel_is (c.Bytes bytes now) m = moment_is (accepts now m.clock) now (panel.on_panel (panel.hears bytes now)) (calls.Hear bytes now) m refl
+panel_is (c.PanelSilence now) m = moment_is (accepts now m.clock) now (panel.on_panel (panel.falls_silent now)) (calls.Silence now) m refl
+panel_is (c.PanelTick now) m = moment_is (accepts now m.clock) now (panel.ticks now) (calls.Tick now) m refl
+panel_is (c.PanelWrite now) m = moment_is (accepts now m.clock) now (panel.on_panel (panel.gives now)) (calls.Write now) m refl
+panel_is _ m = refl
 
-panel_is : (H : Type 0) (call : PanelCall) (m : PanelMachine) → (panel_call call m).machine.bus ≡ bus_after_each {H = H} (panel_calls call m) m.bus
-panel_is H (c.Begin entry now) m =
-    moment_bus (accepts now m.clock) now (panel.begins entry now) m
-    ∙ at_moment H (accepts now m.clock) (bus.Begin entry now ∷ []) (panel.begins entry now m.bus).machine m refl
-panel_is H (c.Submit entry code body) m = reads_so H entry (command_of code body) m.bus
-panel_is H (c.SubmitText entry read) m = submits_so H entry read m.bus
-panel_is H (c.Bytes bytes now) m =
-    moment_bus (accepts now m.clock) now (panel.hears bytes now) m
-    ∙ at_moment H (accepts now m.clock) (bus.OnBytes bytes now ∷ []) (panel.hears bytes now m.bus).machine m refl
-panel_is H (c.PanelSilence now) m =
-    moment_bus (accepts now m.clock) now (panel.falls_silent now) m
-    ∙ at_moment H (accepts now m.clock) (bus.OnSilence now ∷ []) (panel.falls_silent now m.bus).machine m refl
-panel_is H (c.PanelTick now) m =
-    moment_bus (accepts now m.clock) now (panel.ticks now) m
-    ∙ at_moment H (accepts now m.clock) (bus.Tick now ∷ []) (panel.ticks now m.bus).machine m refl
-panel_is H (c.Adds address) m =
-    unless_bus (add_refusal (device_address address) m.bus) m (record m { bus = after_add (device_address address) m.bus })
-panel_is H _ m = refl
-
-pub panels_are : {H : Type 0} → ArePanelCalls (c_panel {H = H})
-panels_are {H} = record {
-  end = λ call m. each_all (IsOfPanel {H = H}) (panel_calls call m) (panel_end H call m);
-  bus = λ call m fits. panel_is H call m;
-}
+pub panels_are : {H : Type 0} → AddsMakeTheBus → ArePanelCalls (c_panel {H = H})
+panels_are adds = handles_are_calls adds c_handle (record { fit = panel_fits; panel = λ call m fits. panel_is call m })
 
 -- ---- a device is added in use
 
-module _ (address : ℕ) (m : PanelMachine) (answer : ℕ) (next : Option PanelMachine) (b' : BusState) (is : next ≡ Some (record m { bus = b' })) where
+module _ (address first : ℕ) (m : PanelMachine) (answer : ℕ) (next : Option PanelMachine) (p' : PanelState) (is : next ≡ Some (record m { panel = p' })) where
   abbrev IsAdded : Type 0
   IsAdded =
-      ((answer ≡ number (c.adds address m).status) × (next ≡ Some (c.adds address m).machine))
+      ((answer ≡ number (c.adds address first m).status) × (next ≡ Some (c.adds address first m).machine))
       ⊎ ((answer ≡ number (status.Panel fault.NoMemory)) × (next ≡ Some m))
 
-  refused : (f : BusFault) → (add_refusal address m.bus ≡ Some f) × (b' ≡ m.bus) → answer ≡ number (status.Panel f) → IsAdded
+  refused : (f : BusFault) → (add_refusal address m.panel.bus ≡ Some f) × (p' ≡ m.panel) → answer ≡ number (status.Panel f) → IsAdded
   refused f ends told =
       inl (
         told ∙ ap (λ o. number (panel.status_of o)) (sym ends.0),
-        is ∙ ap (λ b. Some (record m { bus = b })) ends.1
-            ∙ ap (λ o. Some (changed_unless o m (record m { bus = after_add address m.bus }))) (sym ends.0),
+        is ∙ ap (λ p. Some (record m { panel = p })) ends.1
+            ∙ ap (λ o. Some (record m { panel = changed_unless o m.panel (after_add_at address first m.panel) })) (sym ends.0),
       )
 
-  added_in_use : (r : Result ℕ BusFault) → AddEnds address m.bus b' r → answer ≡ number (panel.added_status r) → IsAdded
+  added_in_use : (r : Result ℕ BusFault) → AddEnds address first m.panel p' r → answer ≡ number (panel.added_status r) → IsAdded
   added_in_use (Ok entry) ends told =
       inl (
         told ∙ ap (λ o. number (panel.status_of o)) (sym ends.0),
-        is ∙ ap (λ b. Some (record m { bus = b })) ends.2
-            ∙ ap (λ o. Some (changed_unless o m (record m { bus = after_add address m.bus }))) (sym ends.0),
+        is ∙ ap (λ p. Some (record m { panel = p })) ends.2
+            ∙ ap (λ o. Some (record m { panel = changed_unless o m.panel (after_add_at address first m.panel) })) (sym ends.0),
       )
-  added_in_use (Err fault.NoMemory) ends told = inr (told, is ∙ ap (λ b. Some (record m { bus = b })) ends.1)
+  added_in_use (Err fault.NoMemory) ends told = inr (told, is ∙ ap (λ p. Some (record m { panel = p })) ends.1)
   added_in_use (Err fault.TooMany) ends told = refused fault.TooMany ends told
   added_in_use (Err fault.AddressTaken) ends told = refused fault.AddressTaken ends told
   added_in_use (Err fault.NoEntry) ends told = refused fault.NoEntry ends told
@@ -144,62 +126,63 @@ module _ (address : ℕ) (m : PanelMachine) (answer : ℕ) (next : Option PanelM
   added_in_use (Err fault.NotClosed) ends told = refused fault.NotClosed ends told
 
 pub adds_in_use : AddsInUse
-adds_in_use address m answer next out out' (r, b', ends, told, is, written) = added_in_use (device_address address) m answer next b' is r ends told
+adds_in_use address first m answer next out out' (r, p', ends, told, is, written) =
+    added_in_use (device_address address) first m answer next p' is r ends told
 
 -- ---- a panel made anew
 
-record Added (address : ℕ) (m : PanelMachine) (next : Option PanelMachine) : Type 0 where
-  fine : add_refusal (device_address address) m.bus ≡ None
-  is : next ≡ Some (record m { bus = after_add (device_address address) m.bus })
+record Added (address first : ℕ) (m : PanelMachine) (next : Option PanelMachine) : Type 0 where
+  fine : add_refusal (device_address address) m.panel.bus ≡ None
+  is : next ≡ Some (record m { panel = after_add_at (device_address address) first m.panel })
 
-added : (address : ℕ) (m : PanelMachine) (next : Option PanelMachine) (out out' : ℕ) (r : Result ℕ BusFault) (b' : BusState)
-    → AddEnds (device_address address) m.bus b' r → number status.Done ≡ number (panel.added_status r) → next ≡ Some (record m { bus = b' })
-    → Added address m next
-added address m next out out' (Ok entry) b' ends done is =
-    record { fine = ends.0; is = is ∙ ap (λ b. Some (record m { bus = b })) ends.2 }
-added address m next out out' (Err fault.NoMemory) b' ends done is = absurd (let e : 0 ≡ 21 = done in omega (arith, e))
-added address m next out out' (Err fault.TooMany) b' ends done is = absurd (let e : 0 ≡ 22 = done in omega (arith, e))
-added address m next out out' (Err fault.AddressTaken) b' ends done is = absurd (let e : 0 ≡ 23 = done in omega (arith, e))
-added address m next out out' (Err fault.NoEntry) b' ends done is = absurd (let e : 0 ≡ 24 = done in omega (arith, e))
-added address m next out out' (Err fault.OutOfRange) b' ends done is = absurd (let e : 0 ≡ 25 = done in omega (arith, e))
-added address m next out out' (Err fault.AddressOutOfRange) b' ends done is = absurd (let e : 0 ≡ 26 = done in omega (arith, e))
-added address m next out out' (Err fault.Full) b' ends done is = absurd (let e : 0 ≡ 33 = done in omega (arith, e))
-added address m next out out' (Err fault.PollSubmitted) b' ends done is = absurd (let e : 0 ≡ 34 = done in omega (arith, e))
-added address m next out out' (Err fault.NotClosed) b' ends done is = absurd (let e : 0 ≡ 35 = done in omega (arith, e))
+added : (address first : ℕ) (m : PanelMachine) (next : Option PanelMachine) (r : Result ℕ BusFault) (p' : PanelState)
+    → AddEnds (device_address address) first m.panel p' r → number status.Done ≡ number (panel.added_status r) → next ≡ Some (record m { panel = p' })
+    → Added address first m next
+added address first m next (Ok entry) p' ends done is =
+    record { fine = ends.0; is = is ∙ ap (λ p. Some (record m { panel = p })) ends.2 }
+added address first m next (Err fault.NoMemory) p' ends done is = absurd (let e : 0 ≡ 21 = done in omega (arith, e))
+added address first m next (Err fault.TooMany) p' ends done is = absurd (let e : 0 ≡ 22 = done in omega (arith, e))
+added address first m next (Err fault.AddressTaken) p' ends done is = absurd (let e : 0 ≡ 23 = done in omega (arith, e))
+added address first m next (Err fault.NoEntry) p' ends done is = absurd (let e : 0 ≡ 24 = done in omega (arith, e))
+added address first m next (Err fault.OutOfRange) p' ends done is = absurd (let e : 0 ≡ 25 = done in omega (arith, e))
+added address first m next (Err fault.AddressOutOfRange) p' ends done is = absurd (let e : 0 ≡ 26 = done in omega (arith, e))
+added address first m next (Err fault.Full) p' ends done is = absurd (let e : 0 ≡ 33 = done in omega (arith, e))
+added address first m next (Err fault.PollSubmitted) p' ends done is = absurd (let e : 0 ≡ 34 = done in omega (arith, e))
+added address first m next (Err fault.NotClosed) p' ends done is = absurd (let e : 0 ≡ 35 = done in omega (arith, e))
 
-record AllAdded (addresses : List ℕ) (m : PanelMachine) (last : Option PanelMachine) : Type 0 where
-  none : NoneRefused (map device_address addresses) m.bus
-  is : last ≡ Some (record m { bus = bus.after_calls (map bus.Add (map device_address addresses)) m.bus })
+record AllAdded (entries : List FirstEntry) (m : PanelMachine) (last : Option PanelMachine) : Type 0 where
+  none : NoneRefused (addresses_of (at_addresses entries)) m.panel.bus
+  is : last ≡ Some (record m { panel = calls.after_calls (adding (at_addresses entries)) m.panel })
 
-add_done : (o : Option BusFault) (address : ℕ) (b : BusState) → o ≡ None → changed_unless o b (after_add address b) ≡ after_add address b
-add_done o address b none = ap (λ x. changed_unless x b (after_add address b)) none
+add_done : (o : Option BusFault) (address first : ℕ) (p : PanelState) → o ≡ None → changed_unless o p (after_add_at address first p) ≡ after_add_at address first p
+add_done o address first p none = ap (λ x. changed_unless x p (after_add_at address first p)) none
 
-all_added : (addresses : List ℕ) (m : PanelMachine) (last : Option PanelMachine) → AddsEach addresses (Some m) last → AllAdded addresses m last
+all_added : (entries : List FirstEntry) (m : PanelMachine) (last : Option PanelMachine) → AddsEach entries (Some m) last → AllAdded entries m last
 all_added [] m last adds = record { none = tt; is = adds }
-all_added (address ∷ addresses) m last (next, out, out', (r, b', ends, done, is, written), more) =
-    let a = added address m next out out' r b' ends done is in
-    let next_m : PanelMachine = record m { bus = after_add (device_address address) m.bus } in
-    let rest = all_added addresses next_m last (subst (λ o. AddsEach addresses o last) a.is more) in
+all_added (e ∷ entries) m last (next, out, out', (r, p', ends, done, is, written), more) =
+    let a = added e.address e.next m next r p' ends done is in
+    let next_m : PanelMachine = record m { panel = after_add_at (device_address e.address) e.next m.panel } in
+    let rest = all_added entries next_m last (subst (λ o. AddsEach entries o last) a.is more) in
     record {
       none = (a.fine, rest.none);
-      is = rest.is ∙ ap (λ b. Some (record m { bus = bus.after_calls (map bus.Add (map device_address addresses)) b }))
-          (sym (add_done (add_refusal (device_address address) m.bus) (device_address address) m.bus a.fine));
+      is = rest.is ∙ ap (λ p. Some (record m { panel = calls.after_calls (adding (at_addresses entries)) p }))
+          (sym (add_done (add_refusal (device_address e.address) m.panel.bus) (device_address e.address) e.next m.panel a.fine));
     }
 
 record NewMade (given : Option BusConfig) (settings : PanelSettings) (made : Option PanelMachine) : Type 0 where
   config : BusConfig
   settings_are : given ≡ Some config
-  is : made ≡ Some (record { bus = new_bus config; clock = new_clock (limit_of settings.clock_limit); sent = tt })
+  is : made ≡ Some (record { panel = new_panel config; clock = new_clock (limit_of settings.clock_limit); turn = [] })
 
-new_made : (settings : PanelSettings) (made : Option PanelMachine) (given : Option BusConfig) (r : Result BusState BusFault)
+new_made : (settings : PanelSettings) (made : Option PanelMachine) (given : Option BusConfig) (r : Result PanelState BusFault)
     → panel.MadeAs given r → number status.Done ≡ number (panel.made_status r)
     → made ≡ panel.made_in (limit_of settings.clock_limit) r → NewMade given settings made
 new_made settings made None r makes done is =
     absurd (let e : 0 ≡ 25 = done ∙ ap (λ x. number (panel.made_status x)) makes in omega (arith, e))
-new_made settings made (Some config) (Ok b) makes done is = record {
+new_made settings made (Some config) (Ok p) makes done is = record {
   config = config;
   settings_are = refl;
-  is = is ∙ ap (λ (x : BusState). Some (record { bus = x; clock = new_clock (limit_of settings.clock_limit); sent = tt })) makes.1;
+  is = is ∙ ap (λ (x : PanelState). Some (record { panel = x; clock = new_clock (limit_of settings.clock_limit); turn = [] })) makes.1;
 }
 new_made settings made (Some config) (Err fault.NoMemory) makes done is = absurd (let e : 0 ≡ 21 = done in omega (arith, e))
 new_made settings made (Some config) (Err fault.TooMany) makes done is = absurd (let e : 0 ≡ 22 = done in omega (arith, e))
@@ -211,45 +194,17 @@ new_made settings made (Some config) (Err fault.Full) makes done is = absurd (le
 new_made settings made (Some config) (Err fault.PollSubmitted) makes done is = absurd (let e : 0 ≡ 34 = done in omega (arith, e))
 new_made settings made (Some config) (Err fault.NotClosed) makes done is = absurd (let e : 0 ≡ 35 = done in omega (arith, e))
 
--- the settings of a struct let a POLL stand between any two orders
-same_some : (a b : BusConfig) → Some a ≡ Some b → a ≡ b
-same_some a b same = cc
-
-none_some : (c : BusConfig) → None ≡ Some c → ⊥
-none_some c is = cc
-
-on_if : (ok : Bool) (r c : BusConfig) → r.poll_between_orders ≡ true → cond ok (Some r) None ≡ Some c → c.poll_between_orders ≡ true
-on_if true r c on is = ap (λ (x : BusConfig). x.poll_between_orders) (sym (same_some r c is)) ∙ on
-on_if false r c on is = absurd (none_some c is)
-
-as_panel : (c : BusConfig) → c.poll_between_orders ≡ true → panel_config c ≡ c
-as_panel c on = ap (λ (polls : Bool). record c { poll_between_orders = polls }) (sym on)
-
-in_room : (room : Room) (s : PanelSettings) (c : BusConfig) → bus_config_in room s ≡ Some c → panel_config c ≡ c
-in_room room s c is = as_panel c (on_if _ _ c refl is)
-
-if_room : (room : Option Room) (s : PanelSettings) (c : BusConfig) → bus_config_if room s ≡ Some c → panel_config c ≡ c
-if_room None s c is = absurd (none_some c is)
-if_room (Some room) s c is = in_room room s c is
-
-made_anew_by : AddsMakeTheBus → (config_of : PanelSettings → Option BusConfig) → ((s : PanelSettings) (c : BusConfig) → config_of s ≡ Some c → panel_config c ≡ c)
+made_anew_by : (config_of : PanelSettings → Option BusConfig)
     → MakesAnewBy config_of (λ settings before answer after. panel.NewPanelIn (config_of settings) (limit_of settings.clock_limit) before answer after)
-made_anew_by adds config_of as_panels settings m freed made last addresses frees news each =
+made_anew_by config_of settings m freed made last entries frees news each =
     let new = subst (λ o. panel.NewPanelIn (config_of settings) (limit_of settings.clock_limit) o (number status.Done) made) frees.machine news in
     let n = new_made settings made (config_of settings) new.0 new.1 new.2 new.3 in
-    let first : PanelMachine = record { bus = new_bus n.config; clock = new_clock (limit_of settings.clock_limit); sent = tt } in
-    let all = all_added addresses first last (subst (λ o. AddsEach addresses o last) n.is each) in (
-      n.config,
-      n.settings_are,
-      all.is ∙ ap (λ b. Some (record first { bus = b })) (adds n.config (map device_address addresses) all.none)
-          ∙ ap (λ (c : BusConfig). Some (record first { bus = bus_with c (map device_address addresses) })) (sym (as_panels settings n.config n.settings_are)),
-    )
+    let first : PanelMachine = record { panel = new_panel n.config; clock = new_clock (limit_of settings.clock_limit); turn = [] } in
+    let all = all_added entries first last (subst (λ o. AddsEach entries o last) n.is each) in
+    (n.config, n.settings_are, all.none, all.is)
 
-pub makes_anew : AddsMakeTheBus → MakesAnew
-makes_anew adds = record {
-  each = made_anew_by adds bus_config_of (λ s c is. if_room (default_room s.capacity) s c is);
-  bytes = λ bytes. made_anew_by adds (bus_config_with bytes) (λ s c is. in_room (record { messages = s.capacity; bytes = bytes }) s c is);
-}
+pub makes_anew : MakesAnew
+makes_anew = record { each = made_anew_by bus_config_of; bytes = λ bytes. made_anew_by (bus_config_with bytes) }
 
 -- ---- a device
 

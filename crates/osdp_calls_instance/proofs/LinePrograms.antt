@@ -5,7 +5,14 @@ use Rattle.osdp_frame.specs.Held as frame
 use Rattle.osdp_bus_laws.specs.Calls as bus
 use Rattle.osdp_device.specs.declared.status.DeviceStatus.{DeviceStatus}
 use Rattle.osdp_line_calls.specs.PanelSessions as panel
-use Rattle.osdp_panel.specs.Panels.{panel_config}
+use Rattle.osdp_bus.specs.Buses.{has_report}
+use Rattle.osdp_bus.specs.Machine.{new_device}
+use Rattle.osdp_bus.specs.declared.entry.Entry.{Entry}
+use Rattle.osdp_controller.specs.declared.report.Report.{Report}
+use Rattle.osdp_panel.specs.Orders.{PanelState}
+use Rattle.osdp_panel.specs.Panels.{after_add_at}
+use Rattle.osdp_panel_laws.specs.Calls as calls
+use Rattle.std.specs.Prelude.{if◌then◌else◌, is_some, ◌+◌}
 use Rattle.osdp_line_calls.specs.ReaderCalls.{CallFits}
 use Rattle.osdp_line_calls.specs.ReaderSessions as device
 use Rattle.osdp_line_calls.specs.declared.panel_call.PanelCall.{PanelCall}
@@ -14,15 +21,15 @@ use Rattle.osdp_line_calls.specs.declared.reader_call.ReaderCall.{ReaderCall}
 use Rattle.osdp_line_calls.specs.declared.reader_call.ReaderCall.TheVariants as line
 use Rattle.osdp_line_laws.proofs.OfReaders.{call_steps}
 use Rattle.osdp_line_laws.proofs.ReaderRuns.{line_is}
+use Rattle.osdp_line_laws.specs.PanelLines as panel_lines
 use Rattle.osdp_line_laws.specs.PanelRuns as panel_runs
 use Rattle.osdp_line_laws.specs.ReaderRuns as device_runs
 use Rattle.osdp_device.specs.Ages.{AgesState, after_expiry, after_removal, expired, expired_front, expires}
 use Rattle.osdp_line_calls.proofs.LettingGo.{none_left}
 use Rattle.osdp_line_calls.specs.ReaderAbsence.{LetGo, goes_first, keeps_all, lets_some_go}
-use Rattle.osdp_calls_instance.specs.LinePrograms.{DeviceAnew, DeviceLine, LinesAreThese, PanelAnew, PanelLine, SaysToDevice, SaysToPanel, after_adds, after_device_line, after_device_lines, after_panel_line, after_panel_lines, calls_of_line, device_line_calls, handing, leaving_by, leaving_call, leaving_calls, line_device, line_panel, nexts, reading, unless_done}
-
-pub own_device : (k : ℕ) → (k == k) ≡ true
-own_device k = eq-eqb k k refl
+use Rattle.osdp_calls_instance.specs.LinePrograms.{DeviceAnew, DeviceLine, LinesAreThese, PanelAnew, PanelLine, SaysToDevice, SaysToPanel, after_adds, after_device_line, after_device_lines, after_panel_line, after_panel_lines, calls_of_line, device_line_calls, handing, leaving_by, leaving_call, leaving_calls, line_device, line_handle, line_panel, nexts, reading, unless_done}
+use Rattle.osdp_calls_instance.specs.Panels.{AreCallsOfPanel, Calls, EachFits, FirstEntry, adding, after_each_of_panel}
+use Rattle.osdp_calls_instance.proofs.Panels.{handles_are_calls, own_device}
 
 pub nexts_own : (H : Type 0) (k n : ℕ) → Each (IsOfDevice {H = H} k) (nexts k n)
 nexts_own H k zero = (own_device k, tt)
@@ -253,50 +260,60 @@ module _ {H : Type 0} where
 
 -- ---- a panel's lines
 
-pub panels_own : (H : Type 0) (calls : List bus.Call) → Each (IsOfPanel {H = H}) (map OfPanel calls)
-panels_own H [] = tt
-panels_own H (call ∷ calls) = (tt, panels_own H calls)
+-- a panel to which nothing was ordered, and which has nothing to tell
+record IsFresh (p : PanelState) : Type 0 where
+  none : p.bus.devices.report ≡ None
+  empty : panel.count_waiting p.bus.devices.entries ≡ 0
 
-pub bus_same : (H : Type 0) (calls : List bus.Call) (b : BusState) → bus.after_calls calls b ≡ bus_after_each {H = H} (map OfPanel calls) b
-bus_same H [] b = refl
-bus_same H (call ∷ calls) b = bus_same H calls (bus.after_call call b)
+count_added : (ds : List Entry) (d : Entry) → d.controller.waiting ≡ [] → panel.count_waiting (ds ++ d ∷ []) ≡ panel.count_waiting ds
+count_added [] d none = let size : length d.controller.waiting ≡ 0 = ap length none in omega (arith, size)
+count_added (x ∷ ds) d none = ap (λ n. length x.controller.waiting + n) (count_added ds d none)
 
-line_end : (H : Type 0) (own : PanelLine) (s : panel.Session) → Each (IsOfPanel {H = H}) ((line_panel {H = H}).calls own s)
-line_end H (SaysToPanel None) s = tt
-line_end H (SaysToPanel (Some call)) s = panels_own H (panel_runs.calls_of call s.now)
-line_end H (PanelAnew config addresses) s = (tt, tt)
+stays_fresh : (o : Option BusFault) (address next : ℕ) (p : PanelState) → IsFresh p → IsFresh (changed_unless o p (after_add_at address next p))
+stays_fresh None address next p is = record { none = is.none; empty = count_added p.bus.devices.entries (new_device address p.bus.config) refl ∙ is.empty }
+stays_fresh (Some fault) address next p is = is
 
--- a bus on which no report waits stays so while devices are added
-no_report : (b : BusState) → b.devices.report ≡ None → after_next_report b ≡ b
-no_report b none =
-    let same : remembered_after b.devices.report b ≡ b.remembered = ap (λ o. remembered_after o b) none in
-    (λ i. record b { devices = record b.devices { report = sym none i }; remembered = same i })
+nothing_taken : (p : PanelState) → IsFresh p → panel_lines.takes_all p ≡ []
+nothing_taken p is =
+    let none : (if has_report p.bus then 1 else 0) ≡ 0 = ap (λ (o : Option (ℕ × Report)). if is_some o then 1 else 0) is.none in
+    let empty = is.empty in
+    let most : panel.most_reports p ≡ 0 = omega (arith, none, empty) in
+    ap (λ n. panel_lines.takes_some n p) most
 
-adds_nothing : (o : Option BusFault) (address : ℕ) (b : BusState) → b.devices.report ≡ None
-    → (changed_unless o b (after_add address b)).devices.report ≡ None
-adds_nothing None address b none = none
-adds_nothing (Some fault) address b none = none
+-- lines that add entries are the calls that add them
+adds_so : (entries : List FirstEntry) (s : panel.Session) → IsFresh s.panel → (after_adds entries s).panel ≡ calls.after_calls (adding entries) s.panel
+adds_so [] s is = refl
+adds_so (e ∷ entries) s is =
+    let q : PanelState = calls.after_call (calls.Add e.address e.next) s.panel in
+    let next : panel.Session = panel_runs.after_said (Some (Add e.address e.next)) s in
+    let fresh : IsFresh q = stays_fresh (add_refusal e.address s.panel.bus) e.address e.next s.panel is in
+    let same : next.panel ≡ q = ap (λ l. calls.after_calls l q) (nothing_taken q fresh) in
+    adds_so entries next (subst IsFresh (sym same) fresh) ∙ ap (calls.after_calls (adding entries)) same
 
-adds_so : (addresses : List ℕ) (s : panel.Session) → s.bus.devices.report ≡ None
-    → (after_adds addresses s).bus ≡ bus.after_calls (map bus.Add addresses) s.bus
-adds_so [] s none = refl
-adds_so (address ∷ addresses) s none =
-    let b : BusState = changed_unless (add_refusal address s.bus) s.bus (after_add address s.bus) in
-    let stays = adds_nothing (add_refusal address s.bus) address s.bus none in
-    adds_so addresses (panel_runs.after_said (Some (Add address)) s) refl
-    ∙ ap (bus.after_calls (map bus.Add addresses)) (no_report b stays)
+-- the calls of a line
+all_fit : (list : List calls.Call) (p : PanelState) → EachFits (map Calls list) p
+all_fit [] p = tt
+all_fit (call ∷ list) p = (tt, all_fit list (calls.after_call call p))
+
+same_calls : (list : List calls.Call) (p : PanelState) → calls.after_calls list p ≡ after_each_of_panel (map Calls list) p
+same_calls [] p = refl
+same_calls (call ∷ list) p = same_calls list (calls.after_call call p)
+
+line_handle_is : AreCallsOfPanel line_handle
+line_handle_is = record { fit = fits; panel = is }
+  where
+    fits : (own : PanelLine) (s : panel.Session) → line_handle.Fits own s → EachFits (line_handle.calls own s) s.panel
+    fits (SaysToPanel None) s fit = tt
+    fits (SaysToPanel (Some call)) s fit = all_fit (panel_lines.calls_of call s) s.panel
+    fits (PanelAnew config entries) s fit = (fit, tt)
+
+    is : (own : PanelLine) (s : panel.Session) → line_handle.Fits own s → (after_panel_line own s).panel ≡ after_each_of_panel (line_handle.calls own s) s.panel
+    is (SaysToPanel None) s fit = refl
+    is (SaysToPanel (Some call)) s fit = same_calls (panel_lines.calls_of call s) s.panel
+    is (PanelAnew config entries) s fit = adds_so entries (panel.new_session config) (record { none = refl; empty = refl })
 
 pub panel_lines_are : {H : Type 0} → AddsMakeTheBus → ArePanelCalls (line_panel {H = H})
-panel_lines_are {H} adds = record {
-  end = λ own s. each_all (IsOfPanel {H = H}) ((line_panel {H = H}).calls own s) (line_end H own s);
-  bus = of_bus;
-}
-  where
-    of_bus : (own : PanelLine) (s : panel.Session) → (line_panel {H = H}).Fits own s
-        → (after_panel_line own s).bus ≡ bus_after_each {H = H} ((line_panel {H = H}).calls own s) s.bus
-    of_bus (SaysToPanel None) s fits = refl
-    of_bus (SaysToPanel (Some call)) s fits = bus_same H (panel_runs.calls_of call s.now) s.bus
-    of_bus (PanelAnew config addresses) s fits = adds_so addresses (panel.new_session (panel_config config)) refl ∙ adds (panel_config config) addresses fits
+panel_lines_are adds = handles_are_calls adds line_handle line_handle_is
 
 -- ---- a device's lines
 

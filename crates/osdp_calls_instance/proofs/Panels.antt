@@ -1,13 +1,23 @@
 -- The calls of a panel are calls of its bus, and those of a program that holds a panel are calls of this panel.
-use Rattle.osdp_calls_instance.proofs.Common.{◌≡◌, ℕ, List, [], ◌∷◌, ◌++◌, map, refl, sym, ap, ◌∙◌, Command, BusState, new_bus, BusConfig, each_all, each_of, Each, Answer, Call, OfPanel, AddsMakeTheBus, AreDeviceCalls, ArePanelCalls, IsOfDevice, IsOfPanel, bus_after_each}
+use Rattle.osdp_calls_instance.proofs.Common.{true, ◌==◌, eq-eqb, ◌≡◌, ℕ, List, [], ◌∷◌, ◌++◌, map, refl, sym, ap, ◌∙◌, Command, BusState, new_bus, BusConfig, each_all, each_of, Each, Answer, Call, OfPanel, AddsMakeTheBus, AreDeviceCalls, ArePanelCalls, IsOfDevice, IsOfPanel, bus_after_each}
 use Rattle.osdp_bus_laws.specs.Calls as bus
 use Rattle.osdp_calls.specs.Lines.{bus_with}
 use Rattle.osdp_panel.specs.Orders.{PanelState}
 use Rattle.osdp_panel.specs.Panels.{new_panel, panel_config}
 use Rattle.osdp_panel_laws.specs.Calls.{after_call as after_panel_call, bus_calls, bus_calls_along}
 use Rattle.osdp_panel_laws.proofs.Calling.{all_calls, one_call}
-use Rattle.osdp_calls_instance.proofs.LinePrograms.{bus_same, own_device, panels_own}
-use Rattle.osdp_calls_instance.specs.Panels.{AreCallsOfPanel, Calls, DeviceCall, EachFits, FirstEntry, FallsSilent, HandleKind, HasHandler, IsBusy, IsMadeAnew, Lapses, LooksAhead, MadeAnew, PanelCall, PanelFits, ReadsNext, Submits, Takes, Ticks, Withdraws, adding, addresses_of, after_each_of_panel, after_panel, by_panel, call_of_device, calls_along_panel, calls_of_panel, panel_made, rattle_device, rattle_panel}
+use Rattle.osdp_calls_instance.specs.Panels.{AreCallsOfPanel, Calls, DeviceUse, EachFits, FirstEntry, FallsSilent, HandleKind, HasHandler, IsBusy, IsMadeAnew, Lapses, LooksAhead, MadeAnew, PanelUse, PanelFits, ReadsNext, Submits, Takes, Ticks, Withdraws, adding, addresses_of, after_each_of_panel, after_panel, by_panel, call_of_device, calls_along_panel, calls_of_panel, panel_made, rattle_device, rattle_panel}
+
+pub own_device : (k : ℕ) → (k == k) ≡ true
+own_device k = eq-eqb k k refl
+
+pub panels_own : (H : Type 0) (calls : List bus.Call) → Each (IsOfPanel {H = H}) (map OfPanel calls)
+panels_own H [] = tt
+panels_own H (call ∷ calls) = (tt, panels_own H calls)
+
+pub bus_same : (H : Type 0) (calls : List bus.Call) (b : BusState) → bus.after_calls calls b ≡ bus_after_each {H = H} (map OfPanel calls) b
+bus_same H [] b = refl
+bus_same H (call ∷ calls) b = bus_same H calls (bus.after_call call b)
 
 -- ---- a panel made anew
 
@@ -25,11 +35,11 @@ bus_made adds config entries p fits =
 
 -- ---- the calls of a panel
 
-panel_own : (H : Type 0) (call : PanelCall) (p : PanelState) → Each (IsOfPanel {H = H}) (calls_of_panel call p)
+panel_own : (H : Type 0) (call : PanelUse) (p : PanelState) → Each (IsOfPanel {H = H}) (calls_of_panel call p)
 panel_own H (Calls call) p = panels_own H (bus_calls call p)
 panel_own H (MadeAnew config entries) p = (tt, tt)
 
-panel_bus : (H : Type 0) → AddsMakeTheBus → (call : PanelCall) (p : PanelState) → PanelFits call p
+panel_bus : (H : Type 0) → AddsMakeTheBus → (call : PanelUse) (p : PanelState) → PanelFits call p
     → (after_panel call p).bus ≡ bus_after_each {H = H} (calls_of_panel call p) p.bus
 panel_bus H adds (Calls call) p fits = one_call call p ∙ bus_same H (bus_calls call p) p.bus
 panel_bus H adds (MadeAnew config entries) p fits = bus_made adds config entries p fits
@@ -46,7 +56,7 @@ both_own : (H : Type 0) (xs ys : List (Call H)) → Each (IsOfPanel {H = H}) xs 
 both_own H [] ys a b = b
 both_own H (x ∷ xs) ys a b = (a.0, both_own H xs ys a.1 b)
 
-along_own : (H : Type 0) (calls : List PanelCall) (p : PanelState) → Each (IsOfPanel {H = H}) (calls_along_panel calls p)
+along_own : (H : Type 0) (calls : List PanelUse) (p : PanelState) → Each (IsOfPanel {H = H}) (calls_along_panel calls p)
 along_own H [] p = tt
 along_own H (call ∷ calls) p =
     both_own H (calls_of_panel call p) (calls_along_panel calls (after_panel call p)) (panel_own H call p) (along_own H calls (after_panel call p))
@@ -55,7 +65,7 @@ more_calls : (H : Type 0) (xs ys : List (Call H)) (b : BusState) → bus_after_e
 more_calls H [] ys b = refl
 more_calls H (x ∷ xs) ys b = more_calls H xs ys (Rattle.osdp_calls_instance.specs.OwnCalls.bus_after x b)
 
-along_bus : (H : Type 0) → AddsMakeTheBus → (calls : List PanelCall) (p : PanelState) → EachFits calls p
+along_bus : (H : Type 0) → AddsMakeTheBus → (calls : List PanelUse) (p : PanelState) → EachFits calls p
     → (after_each_of_panel calls p).bus ≡ bus_after_each {H = H} (calls_along_panel calls p) p.bus
 along_bus H adds [] p fits = refl
 along_bus H adds (call ∷ calls) p fits =
@@ -75,7 +85,7 @@ handles_are_calls {H} adds h are = record {
 
 module _ {H : Type 0} (answer_of : H → Command → Answer) (after : H → Command → H) where
   -- which entry a call is for says nothing of what it does
-  same_call : (k : ℕ) (call : DeviceCall H) (d : Rattle.osdp_calls.specs.Calls.Held H)
+  same_call : (k : ℕ) (call : DeviceUse H) (d : Rattle.osdp_calls.specs.Calls.Held H)
       → Rattle.osdp_calls.specs.Calls.device_after answer_of after (call_of_device 0 call) d ≡ Rattle.osdp_calls.specs.Calls.device_after answer_of after (call_of_device k call) d
   same_call k (Submits event) d = refl
   same_call k (IsBusy busy) d = refl
@@ -89,7 +99,7 @@ module _ {H : Type 0} (answer_of : H → Command → Answer) (after : H → Comm
   same_call k LooksAhead d = refl
   same_call k (IsMadeAnew config handler room gap) d = refl
 
-  device_own : (k : ℕ) (call : DeviceCall H) → Each (IsOfDevice {H = H} k) (call_of_device k call ∷ [])
+  device_own : (k : ℕ) (call : DeviceUse H) → Each (IsOfDevice {H = H} k) (call_of_device k call ∷ [])
   device_own k (Submits event) = (own_device k, tt)
   device_own k (IsBusy busy) = (own_device k, tt)
   device_own k (HasHandler handler) = (own_device k, tt)

@@ -8,10 +8,10 @@ use Rattle.osdp_msg.specs.declared.command.Command.{Command}
 use Rattle.osdp_msg.specs.declared.event.Event.{Event}
 use Rattle.osdp_msg.specs.declared.fault.MsgFault.{MsgFault}
 use Rattle.osdp_msg.specs.declared.limits.Room.{Room}
-use Rattle.osdp_bus.specs.Machine.{add_refusal, after_add, changed_unless}
+use Rattle.osdp_bus.specs.Buses.{new_bus}
+use Rattle.osdp_bus.specs.Machine.{add_refusal, changed_unless}
 use Rattle.osdp_bus.specs.declared.config.BusConfig.{BusConfig}
 use Rattle.osdp_bus.specs.declared.fault.BusFault.TheVariants as fault
-use Rattle.osdp_bus_laws.specs.Calls as bus
 use Rattle.osdp_device.specs.Deciding.{is_asked, pending_of}
 use Rattle.osdp_device.specs.Program.{new_program, program_after, program_answer}
 use Rattle.osdp_frame.specs.Receiving.{Received, after_silence, after_take, after_tick}
@@ -37,10 +37,13 @@ use Rattle.osdp_c_values.specs.Addresses.{device_address}
 use Rattle.osdp_c_values.specs.Calls.{Done, IsDone, frees}
 use Rattle.osdp_c_values.specs.Panels as panel
 use Rattle.osdp_c_values.specs.Readers as reader
-use Rattle.osdp_calls.specs.Calls.{Call, NewDevice, NewPanel, Next, OfPanel, Pending, SetBusy, SetHandler, Silence, SubmitEvent, Take, TickDevice, LapseEvent, WithdrawEvent}
-use Rattle.osdp_calls.specs.Lines.{bus_with}
-use Rattle.osdp_panel.specs.Panels.{panel_config}
+use Rattle.osdp_calls.specs.Calls.{Call, NewDevice, Next, Pending, SetBusy, SetHandler, Silence, SubmitEvent, Take, TickDevice, LapseEvent, WithdrawEvent}
+use Rattle.osdp_calls.specs.Sayings.{NoneRefused}
+use Rattle.osdp_panel.specs.Panels.{after_add_at, panel_config}
+use Rattle.osdp_panel_laws.specs.Calls as calls
 use Rattle.osdp_calls_instance.specs.OwnCalls.{ArePanelCalls, DeviceKind, PanelKind}
+use Rattle.osdp_calls_instance.specs.Panels.{Calls, FirstEntry, HandleKind, MadeAnew, PanelUse, addresses_of, by_panel}
+use Rattle.osdp_calls_instance.specs.Panels as panels
 
 -- ---- a panel
 
@@ -48,108 +51,122 @@ use Rattle.osdp_calls_instance.specs.OwnCalls.{ArePanelCalls, DeviceKind, PanelK
 -- finds memory. Made anew: freed, made with these settings and with this limit of its clock, and its devices added, all done.
 pub data PanelCall : Type 0 where
   Begin : ℕ → ℕ → PanelCall
-  Submit : ℕ → ℕ → List ℕ → PanelCall
-  SubmitText : ℕ → Option Command → PanelCall
+  Submit : ℕ → ℕ → List ℕ → ℕ → PanelCall
+  SubmitText : ℕ → Option Command → ℕ → PanelCall
   Withdraw : ℕ → PanelCall
   Retarget : ℕ → ℕ → PanelCall
   Bytes : List ℕ → ℕ → PanelCall
   PanelSilence : ℕ → PanelCall
   PanelTick : ℕ → PanelCall
+  PanelWrite : ℕ → PanelCall
   NextReport : PanelCall
   SetPanelMoment : ℕ → PanelCall
   LooksAt : ℕ → PanelCall
+  LooksAtNumber : ℕ → PanelCall
   Looks : PanelCall
-  Adds : ℕ → PanelCall
-  PanelAnew : BusConfig → ℕ → List ℕ → PanelCall
+  Adds : ℕ → ℕ → PanelCall
+  PanelAnew : BusConfig → ℕ → List FirstEntry → PanelCall
 
--- a panel that was made with these settings, and to which these devices were added: a POLL stands between any two orders of a device
-abbrev pub panel_made : BusConfig → ℕ → List ℕ → PanelMachine
-panel_made config limit addresses = record {
-  bus = bus_with (panel_config config) addresses;
-  clock = new_clock limit;
-  sent = tt;
-}
+-- a panel that was made with these settings, and to which these devices were added
+abbrev pub panel_made : BusConfig → ℕ → List FirstEntry → PanelMachine
+panel_made config limit entries = record { panel = panels.panel_made config entries; clock = new_clock limit; turn = [] }
 
 -- a device is added, or refused
-abbrev pub adds : ℕ → PanelMachine → Done PanelMachine
-adds address m = record {
-  status = panel.status_of (add_refusal address m.bus);
-  machine = changed_unless (add_refusal address m.bus) m (record m { bus = after_add address m.bus });
+abbrev pub adds : ℕ → ℕ → PanelMachine → Done PanelMachine
+adds address next m = record {
+  status = panel.status_of (add_refusal address m.panel.bus);
+  machine = record m { panel = changed_unless (add_refusal address m.panel.bus) m.panel (after_add_at address next m.panel) };
 }
 
 -- each by its definition
 abbrev pub panel_call : PanelCall → PanelMachine → Done PanelMachine
-panel_call (Begin entry now) m = panel.at_moment now (panel.begins entry now) m
-panel_call (Submit entry code body) m = panel.on_bus (panel.submits_data entry code body) m
-panel_call (SubmitText entry read) m = panel.on_bus (panel.submits_text entry read) m
-panel_call (Withdraw entry) m = panel.on_bus (panel.withdraws entry) m
-panel_call (Retarget entry address) m = panel.on_bus (panel.retargets entry (device_address address)) m
-panel_call (Bytes bytes now) m = panel.at_moment now (panel.hears bytes now) m
-panel_call (PanelSilence now) m = panel.at_moment now (panel.falls_silent now) m
+panel_call (Begin entry now) m = panel.at_moment now (panel.on_panel (panel.begins entry now)) m
+panel_call (Submit entry code body until) m = panel.on_panel (panel.submits_data entry code body until) m
+panel_call (SubmitText entry read until) m = panel.on_panel (panel.submits_text entry read until) m
+panel_call (Withdraw entry) m = panel.on_panel (panel.withdraws entry) m
+panel_call (Retarget entry address) m = panel.on_panel (panel.retargets entry (device_address address)) m
+panel_call (Bytes bytes now) m = panel.at_moment now (panel.on_panel (panel.hears bytes now)) m
+panel_call (PanelSilence now) m = panel.at_moment now (panel.on_panel (panel.falls_silent now)) m
 panel_call (PanelTick now) m = panel.at_moment now (panel.ticks now) m
-panel_call NextReport m = panel.on_bus panel.reports m
+panel_call (PanelWrite now) m = panel.at_moment now (panel.on_panel (panel.gives now)) m
+panel_call NextReport m = panel.on_panel panel.reports m
 panel_call (SetPanelMoment now) m = panel.sets_moment now m
-panel_call (LooksAt entry) m = panel.on_bus (panel.looks_at entry) m
-panel_call Looks m = panel.on_bus panel.does m
-panel_call (Adds address) m = adds (device_address address) m
-panel_call (PanelAnew config limit addresses) m = record { status = status.Done; machine = panel_made config limit addresses }
+panel_call (LooksAt entry) m = panel.on_panel (panel.looks_at entry) m
+panel_call (LooksAtNumber entry) m = panel.on_panel (panel.looks_at_number entry) m
+panel_call Looks m = panel.on_panel panel.does m
+panel_call (Adds address next) m = adds (device_address address) next m
+panel_call (PanelAnew config limit entries) m = record { status = status.Done; machine = panel_made config limit entries }
+
+-- a panel is made anew with entries that can be added as they stand
+abbrev pub PanelCallFits : PanelCall → PanelMachine → Type 0
+PanelCallFits (PanelAnew config limit entries) m = NoneRefused (addresses_of entries) (new_bus (panel_config config))
+PanelCallFits _ m = Unit {0}
 
 -- a call at a moment that is not accepted is none
-abbrev pub if_accepted : {H : Type 0} → ℕ → PanelMachine → List bus.Call → List (Call H)
-if_accepted now m calls = if accepts now m.clock then map OfPanel calls else []
+abbrev pub if_accepted : ℕ → PanelMachine → calls.Call → List PanelUse
+if_accepted now m call = if accepts now m.clock then Calls call ∷ [] else []
 
 -- an order, of a command that was read
-abbrev pub submitted : {H : Type 0} → ℕ → Option Command → List (Call H)
-submitted entry None = []
-submitted entry (Some command) = map OfPanel (bus.orders entry command)
+abbrev pub submitted : ℕ → Option Command → ℕ → List PanelUse
+submitted entry None until = []
+submitted entry (Some command) until = Calls (calls.Submit entry command until) ∷ []
 
 -- the command that was read of a code and data, if one was
 abbrev pub if_read : Result Command MsgFault → Option Command
 if_read (Ok command) = Some command
 if_read (Err fault) = None
 
--- which calls that is: a moment that is set is a read of no bytes
-abbrev pub panel_calls : {H : Type 0} → PanelCall → PanelMachine → List (Call H)
-panel_calls (Begin entry now) m = if_accepted now m (bus.Begin entry now ∷ [])
-panel_calls (Submit entry code body) m = submitted entry (if_read (command_of code body))
-panel_calls (SubmitText entry read) m = submitted entry read
-panel_calls (Withdraw entry) m = OfPanel (bus.Withdraw entry) ∷ []
-panel_calls (Retarget entry address) m = OfPanel (bus.Retarget entry (device_address address)) ∷ []
-panel_calls (Bytes bytes now) m = if_accepted now m (bus.OnBytes bytes now ∷ [])
-panel_calls (PanelSilence now) m = if_accepted now m (bus.OnSilence now ∷ [])
-panel_calls (PanelTick now) m = if_accepted now m (bus.Tick now ∷ [])
-panel_calls NextReport m = OfPanel bus.NextReport ∷ []
-panel_calls (SetPanelMoment now) m = OfPanel (bus.OnBytes [] now) ∷ []
-panel_calls (LooksAt entry) m = []
-panel_calls Looks m = []
-panel_calls (Adds address) m = OfPanel (bus.Add (device_address address)) ∷ []
-panel_calls (PanelAnew config limit addresses) m = NewPanel (panel_config config) addresses ∷ []
+-- which calls of its panel that is: a moment that is set is a read of no bytes
+abbrev pub calls_for_c : PanelCall → PanelMachine → List PanelUse
+calls_for_c (Begin entry now) m = if_accepted now m (calls.Begin entry now)
+calls_for_c (Submit entry code body until) m = submitted entry (if_read (command_of code body)) until
+calls_for_c (SubmitText entry read until) m = submitted entry read until
+calls_for_c (Withdraw entry) m = Calls (calls.Withdraw entry) ∷ []
+calls_for_c (Retarget entry address) m = Calls (calls.Retarget entry (device_address address)) ∷ []
+calls_for_c (Bytes bytes now) m = if_accepted now m (calls.Hear bytes now)
+calls_for_c (PanelSilence now) m = if_accepted now m (calls.Silence now)
+calls_for_c (PanelTick now) m = if_accepted now m (calls.Tick now)
+calls_for_c (PanelWrite now) m = if_accepted now m (calls.Write now)
+calls_for_c NextReport m = Calls calls.NextReport ∷ []
+calls_for_c (SetPanelMoment now) m = Calls (calls.Hear [] now) ∷ []
+calls_for_c (LooksAt entry) m = []
+calls_for_c (LooksAtNumber entry) m = []
+calls_for_c Looks m = []
+calls_for_c (Adds address next) m = Calls (calls.Add (device_address address) next) ∷ []
+calls_for_c (PanelAnew config limit entries) m = MadeAnew config entries ∷ []
 
--- the kind of a panel in C: its own calls are those of its handle, and each of them fits
-abbrev pub c_panel : {H : Type 0} → PanelKind H
-c_panel = record {
+-- the kind of a panel in C holds a panel, and its own calls are those of its handle
+abbrev pub c_handle : HandleKind
+c_handle = record {
   Program = PanelMachine;
-  bus = λ m. m.bus;
+  panel = λ m. m.panel;
   Own = PanelCall;
   after = λ call m. (panel_call call m).machine;
-  Fits = λ call m. Unit {0};
-  calls = panel_calls;
+  Fits = PanelCallFits;
+  calls = calls_for_c;
 }
 
--- what leads to a panel that is made anew: its handle is freed, and the contracts of the call that makes it and of an `osdp_panel_add` for each of these
--- numbers are met, each with the answer that it is done
-abbrev pub AddsEach : List ℕ → Option PanelMachine → Option PanelMachine → Type 0
-AddsEach [] m last = last ≡ m
-AddsEach (address ∷ addresses) m last =
-    (next : Option PanelMachine) × (out : ℕ) × (out' : ℕ)
-    × panel.AddsTo (device_address address) m (number status.Done) next out out' × AddsEach addresses next last
+abbrev pub c_panel : {H : Type 0} → PanelKind H
+c_panel = by_panel c_handle
 
--- By a call that makes a panel of such settings: what leads to a panel made anew comes to the panel that `panel_made` has.
+-- what leads to a panel that is made anew: its handle is freed, and the contracts of the call that makes it and of an `osdp_panel_add` for each of these
+-- entries are met, each with the answer that it is done
+abbrev pub AddsEach : List FirstEntry → Option PanelMachine → Option PanelMachine → Type 0
+AddsEach [] m last = last ≡ m
+AddsEach (entry ∷ entries) m last =
+    (next : Option PanelMachine) × (out : ℕ) × (out' : ℕ)
+    × panel.AddsTo (device_address entry.address) entry.next m (number status.Done) next out out' × AddsEach entries next last
+
+-- these entries, at the addresses that these numbers name
+abbrev pub at_addresses : List FirstEntry → List FirstEntry
+at_addresses entries = map (λ (e : FirstEntry). record e { address = device_address e.address }) entries
+
+-- By a call that makes a panel of such settings: what leads to a panel made anew comes to the panel that `panel_made` has, by a call that fits.
 abbrev pub MakesAnewBy : (PanelSettings → Option BusConfig) → (PanelSettings → Option PanelMachine → ℕ → Option PanelMachine → Type 0) → Type 0
-MakesAnewBy config_of NewEnds = (settings : PanelSettings) (m : PanelMachine) (freed made last : Option PanelMachine) (addresses : List ℕ)
-    → IsDone (frees (Some m)) (number status.Done) freed → NewEnds settings freed (number status.Done) made → AddsEach addresses made last
-    → (config : BusConfig) × (config_of settings ≡ Some config)
-    × (last ≡ Some (panel_made config (limit_of settings.clock_limit) (map device_address addresses)))
+MakesAnewBy config_of NewEnds = (settings : PanelSettings) (m : PanelMachine) (freed made last : Option PanelMachine) (entries : List FirstEntry)
+    → IsDone (frees (Some m)) (number status.Done) freed → NewEnds settings freed (number status.Done) made → AddsEach entries made last
+    → (config : BusConfig) × (config_of settings ≡ Some config) × PanelCallFits (PanelAnew config (limit_of settings.clock_limit) (at_addresses entries)) m
+    × (last ≡ Some (panel_made config (limit_of settings.clock_limit) (at_addresses entries)))
 
 -- by the call that makes it with room for each command, and by the one with room for so many bytes of them
 pub record MakesAnew : Type 0 where
@@ -158,9 +175,9 @@ pub record MakesAnew : Type 0 where
 
 -- an `osdp_panel_add` to a panel in use is `Adds`, or it finds no memory and leaves the panel as it is
 abbrev pub AddsInUse : Type 0
-AddsInUse = (address : ℕ) (m : PanelMachine) (answer : ℕ) (next : Option PanelMachine) (out out' : ℕ)
-    → panel.AddsTo (device_address address) (Some m) answer next out out'
-    → let done = panel_call (Adds address) m in
+AddsInUse = (address first : ℕ) (m : PanelMachine) (answer : ℕ) (next : Option PanelMachine) (out out' : ℕ)
+    → panel.AddsTo (device_address address) first (Some m) answer next out out'
+    → let done = panel_call (Adds address first) m in
     ((answer ≡ number done.status) × (next ≡ Some done.machine)) ⊎ ((answer ≡ number (status.Panel fault.NoMemory)) × (next ≡ Some m))
 
 -- ---- a device

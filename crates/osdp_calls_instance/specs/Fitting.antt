@@ -1,5 +1,5 @@
 -- Which calls of programs the laws of programs speak of: nearly all. Left out are entries that can't be added as they stand.
-use Rattle.std.specs.Prelude.{◌≡◌, ◌↔◌, ℕ, ◌≤◌, true, false, List, [], ◌∷◌, Option, Some, None}
+use Rattle.std.specs.Prelude.{◌≡◌, ◌↔◌, ℕ, Bool, ◌≤◌, true, false, List, [], ◌∷◌, Option, Some, None}
 use Rattle.osdp_device.specs.declared.events.Expired.TheVariants.{InDoubt, Withdrawn}
 use Rattle.osdp_msg.specs.declared.limits.Room.{Room}
 use Rattle.osdp_frame.specs.declared.check_kind.CheckKind.TheVariants.{Crc}
@@ -21,15 +21,25 @@ use Rattle.osdp_calls.specs.Sayings.{NoneRefused}
 use Rattle.osdp_calls_instance.specs.CPrograms as c
 use Rattle.osdp_premises.specs.LongDay.{device_at, key}
 use Rattle.osdp_calls_instance.specs.LinePrograms as lines
+use Rattle.osdp_calls_instance.specs.Panels.{FirstEntry, addresses_of}
 
--- each call of a panel's handle is one, and so is each of a device's handle
+-- two entries at different addresses, of devices that never had an order
+abbrev pub two_entries : List FirstEntry
+two_entries = record { address = 5; next = 0 } ∷ record { address = 6; next = 0 } ∷ []
+
+-- a call that makes a panel anew
+abbrev pub makes_anew : c.PanelCall → Bool
+makes_anew (c.PanelAnew config limit entries) = true
+makes_anew _ = false
+
+-- Each call of a panel's handle is one, and a panel that is made anew is one exactly where its entries can be added, as two at different addresses can. Each call of a device's
+-- handle is one.
 pub record CallsForCFit (H : Type 0) : Type 0 where
-  pub panel : (call : c.PanelCall) (m : PanelMachine) → (c.c_panel {H = H}).Fits call m
+  pub panel : (call : c.PanelCall) (m : PanelMachine) → makes_anew call ≡ false → (c.c_panel {H = H}).Fits call m
+  pub anew : (config : BusConfig) (limit : ℕ) (entries : List FirstEntry) (m : PanelMachine)
+      → (c.c_panel {H = H}).Fits (c.PanelAnew config limit entries) m ↔ NoneRefused (addresses_of entries) (new_bus (panel_config config))
+  pub two : (room : Room) (limit : ℕ) (m : PanelMachine) → (c.c_panel {H = H}).Fits (c.PanelAnew (default_config Crc room) limit two_entries) m
   pub device : (call : c.DeviceCall) (m : ReaderMachine) → c.c_device.Fits call m
-
--- two entries at different addresses, with the settings that a panel by lines has unless it is told others
-abbrev pub two_addresses : List ℕ
-two_addresses = 5 ∷ 6 ∷ []
 
 -- a device to which no panel has spoken yet, and which lets an event go that is older than a second; a key was pressed there at moment 0
 abbrev pub pressed : device_sessions.Session
@@ -50,9 +60,9 @@ two_seconds = lines.SaysToDevice (Some (to_device.At 2000))
 -- where it is in doubt.
 pub record LinesFit (H : Type 0) : Type 0 where
   pub panel : (said : Option PanelCall) (s : panel_sessions.Session) → (lines.line_panel {H = H}).Fits (lines.SaysToPanel said) s
-  pub anew : (config : BusConfig) (addresses : List ℕ) (s : panel_sessions.Session)
-      → (lines.line_panel {H = H}).Fits (lines.PanelAnew config addresses) s ↔ NoneRefused addresses (new_bus (panel_config config))
-  pub two : (room : Room) (s : panel_sessions.Session) → (lines.line_panel {H = H}).Fits (lines.PanelAnew (default_config Crc room) two_addresses) s
+  pub anew : (config : BusConfig) (entries : List FirstEntry) (s : panel_sessions.Session)
+      → (lines.line_panel {H = H}).Fits (lines.PanelAnew config entries) s ↔ NoneRefused (addresses_of entries) (new_bus (panel_config config))
+  pub two : (room : Room) (s : panel_sessions.Session) → (lines.line_panel {H = H}).Fits (lines.PanelAnew (default_config Crc room) two_entries) s
   pub nothing : (s : device_sessions.Session) → lines.line_device.Fits (lines.SaysToDevice None) s
   pub device : (call : ReaderCall) (s : device_sessions.Session) → lines.line_device.Fits (lines.SaysToDevice (Some call)) s ↔ CallFits call
   pub device_anew : (config : ReaderConfig) (room gap : ℕ) (s : device_sessions.Session)

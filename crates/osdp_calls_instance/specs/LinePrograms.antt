@@ -26,59 +26,60 @@ use Rattle.osdp_line_calls.specs.declared.reader_call.ReaderCall.TheVariants as 
 use Rattle.osdp_line_calls.specs.Calls.{AreSaid}
 use Rattle.osdp_line_calls.specs.PanelCalls as to_panel
 use Rattle.osdp_line_calls.specs.ReaderCalls as to_device
+use Rattle.osdp_line_laws.specs.PanelLines as panel_lines_laws
 use Rattle.osdp_line_laws.specs.PanelRuns as panel_runs
 use Rattle.osdp_line_laws.specs.ReaderRuns as device_runs
 use Rattle.osdp_reader.specs.State.{ReaderState}
 use Rattle.osdp_reader.specs.declared.config.ReaderConfig.{ReaderConfig}
 use Rattle.osdp_reader.specs.declared.handler.Answer.{Answer}
-use Rattle.osdp_calls.specs.Calls.{Call, NewDevice, NewPanel, Next, OfPanel, SetBusy, SetHandler, Silence, SubmitEvent, Take, TickDevice, LapseEvent, WithdrawEvent}
+use Rattle.osdp_calls.specs.Calls.{Call, NewDevice, Next, SetBusy, SetHandler, Silence, SubmitEvent, Take, TickDevice, LapseEvent, WithdrawEvent}
 use Rattle.osdp_calls.specs.Sayings.{NoneRefused}
 use Rattle.osdp_calls_instance.specs.OwnCalls.{ArePanelCalls, DeviceKind, PanelKind}
+use Rattle.osdp_calls_instance.specs.Panels.{Calls, FirstEntry, HandleKind, MadeAnew, PanelUse, addresses_of, by_panel}
 use Rattle.osdp_panel.specs.Panels.{panel_config}
 
 -- ---- a panel
 
--- a line, as the call that it says, or none; or the panel is run anew with these settings, and its first lines add devices at these addresses. A POLL stands between
+-- a line, as the call that it says, or none; or the panel is run anew with these settings, and its first lines add these entries. A POLL stands between
 -- any two orders of a device, whatever the settings are
 pub data PanelLine : Type 0 where
   SaysToPanel : Option PanelCall → PanelLine
-  PanelAnew : BusConfig → List ℕ → PanelLine
+  PanelAnew : BusConfig → List FirstEntry → PanelLine
 
--- a session after lines that add devices at these addresses
-abbrev pub after_adds : List ℕ → panel.Session → panel.Session
+-- a session after lines that add these entries
+abbrev pub after_adds : List FirstEntry → panel.Session → panel.Session
 after_adds [] s = s
-after_adds (address ∷ addresses) s = after_adds addresses (panel_runs.after_said (Some (Add address)) s)
+after_adds (entry ∷ entries) s = after_adds entries (panel_runs.after_said (Some (Add entry.address entry.next)) s)
 
 -- a session after a line
 abbrev pub after_panel_line : PanelLine → panel.Session → panel.Session
 after_panel_line (SaysToPanel said) s = panel_runs.after_said said s
-after_panel_line (PanelAnew config addresses) s = after_adds addresses (panel.new_session (panel_config config))
+after_panel_line (PanelAnew config entries) s = after_adds entries (panel.new_session config)
 
 -- a panel may be run anew with entries that can be added as they stand
 abbrev pub PanelLineFits : PanelLine → panel.Session → Type 0
 PanelLineFits (SaysToPanel said) s = Unit {0}
-PanelLineFits (PanelAnew config addresses) s = NoneRefused addresses (new_bus (panel_config config))
+PanelLineFits (PanelAnew config entries) s = NoneRefused (addresses_of entries) (new_bus (panel_config config))
 
--- which calls that is: a line that says a call is that one, and then the report that waits is taken
-abbrev pub calls_said : {H : Type 0} → Option PanelCall → panel.Session → List (Call H)
-calls_said None s = []
-calls_said (Some call) s = map OfPanel (panel_runs.calls_of call s.now)
+-- which calls of its panel that is: a line that says a call is that one, and then each report that waits is taken; a panel that is run anew is one that is made anew
+abbrev pub calls_by_lines : PanelLine → panel.Session → List PanelUse
+calls_by_lines (SaysToPanel None) s = []
+calls_by_lines (SaysToPanel (Some call)) s = map Calls (panel_lines_laws.calls_of call s)
+calls_by_lines (PanelAnew config entries) s = MadeAnew config entries ∷ []
 
--- .. and a panel that is run anew is one that is made anew
-abbrev pub panel_line_calls : {H : Type 0} → PanelLine → panel.Session → List (Call H)
-panel_line_calls (SaysToPanel said) s = calls_said said s
-panel_line_calls (PanelAnew config addresses) s = NewPanel (panel_config config) addresses ∷ []
-
--- the kind of a panel by lines: its own calls are its lines
-abbrev pub line_panel : {H : Type 0} → PanelKind H
-line_panel = record {
+-- the kind of a panel by lines holds a panel, and its own calls are its lines
+abbrev pub line_handle : HandleKind
+line_handle = record {
   Program = panel.Session;
-  bus = λ s. s.bus;
+  panel = λ s. s.panel;
   Own = PanelLine;
   after = after_panel_line;
   Fits = PanelLineFits;
-  calls = panel_line_calls;
+  calls = calls_by_lines;
 }
+
+abbrev pub line_panel : {H : Type 0} → PanelKind H
+line_panel = by_panel line_handle
 
 -- ---- a device
 

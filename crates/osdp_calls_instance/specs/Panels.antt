@@ -23,10 +23,10 @@ pub record FirstEntry : Type 0 where
   pub address : ℕ
   pub next : ℕ
 
--- a call of a panel; or the panel is made anew, with these settings and these entries
-pub data PanelCall : Type 0 where
-  Calls : panel.Call → PanelCall
-  MadeAnew : BusConfig → List FirstEntry → PanelCall
+-- how a program in Rattle uses a panel: it calls it; or makes it anew, with these settings and these entries
+pub data PanelUse : Type 0 where
+  Calls : panel.Call → PanelUse
+  MadeAnew : BusConfig → List FirstEntry → PanelUse
 
 -- the addresses of entries
 abbrev pub addresses_of : List FirstEntry → List ℕ
@@ -41,18 +41,18 @@ abbrev pub panel_made : BusConfig → List FirstEntry → PanelState
 panel_made config entries = after_panel_calls (adding entries) (new_panel config)
 
 -- the panel after such a call
-abbrev pub after_panel : PanelCall → PanelState → PanelState
+abbrev pub after_panel : PanelUse → PanelState → PanelState
 after_panel (Calls call) p = after_panel_call call p
 after_panel (MadeAnew config entries) p = panel_made config entries
 
 -- a panel may be made anew with entries that can be added as they stand
-abbrev pub PanelFits : PanelCall → PanelState → Type 0
+abbrev pub PanelFits : PanelUse → PanelState → Type 0
 PanelFits (Calls call) p = Unit {0}
 PanelFits (MadeAnew config entries) p = NoneRefused (addresses_of entries) (new_bus (panel_config config))
 
 -- Which calls of a line in use it is: the calls of its bus that it is. A burst that a tick gives and that is withheld, since the last moment of its order has passed, was said, and is lost on the line: nobody
 -- reads it.
-abbrev pub calls_of_panel : {H : Type 0} → PanelCall → PanelState → List (Call H)
+abbrev pub calls_of_panel : {H : Type 0} → PanelUse → PanelState → List (Call H)
 calls_of_panel (Calls call) p = map OfPanel (bus_calls call p)
 calls_of_panel (MadeAnew config entries) p = NewPanel (panel_config config) (addresses_of entries) ∷ []
 
@@ -61,7 +61,7 @@ abbrev pub rattle_panel : {H : Type 0} → PanelKind H
 rattle_panel = record {
   Program = PanelState;
   bus = λ p. p.bus;
-  Own = PanelCall;
+  Own = PanelUse;
   after = after_panel;
   Fits = PanelFits;
   calls = calls_of_panel;
@@ -74,17 +74,17 @@ PanelIsCalled H = ArePanelCalls (rattle_panel {H = H})
 -- ---- a program that holds one
 
 -- the panel after a list of such calls
-abbrev pub after_each_of_panel : List PanelCall → PanelState → PanelState
+abbrev pub after_each_of_panel : List PanelUse → PanelState → PanelState
 after_each_of_panel [] p = p
 after_each_of_panel (call ∷ calls) p = after_each_of_panel calls (after_panel call p)
 
 -- each of them fits where those before it have brought the panel
-abbrev pub EachFits : List PanelCall → PanelState → Type 0
+abbrev pub EachFits : List PanelUse → PanelState → Type 0
 EachFits [] p = Unit {0}
 EachFits (call ∷ calls) p = PanelFits call p × EachFits calls (after_panel call p)
 
 -- the calls of a line in use that they are
-abbrev pub calls_along_panel : {H : Type 0} → List PanelCall → PanelState → List (Call H)
+abbrev pub calls_along_panel : {H : Type 0} → List PanelUse → PanelState → List (Call H)
 calls_along_panel [] p = []
 calls_along_panel (call ∷ calls) p = calls_of_panel call p ++ calls_along_panel calls (after_panel call p)
 
@@ -95,7 +95,7 @@ pub record HandleKind : Type 1 where
   pub Own : Type 0
   pub after : Own → Program → Program
   pub Fits : Own → Program → Type 0
-  pub calls : Own → Program → List PanelCall
+  pub calls : Own → Program → List PanelUse
 
 -- such a kind as one of a panel's program
 abbrev pub by_panel : {H : Type 0} → HandleKind → PanelKind H
@@ -115,24 +115,24 @@ pub record AreCallsOfPanel (h : HandleKind) : Type 0 where
 
 -- ---- a device
 
--- a call of an `osdp_device::Device`, or of the reader in it; or the device is made anew, with these settings, its handler, its room for events and its gap, be it the same
+-- how it uses a device: a call of an `osdp_device::Device`, or of the reader in it; or the device is made anew, with these settings, its handler, its room for events and its gap, be it the same
 -- or another in its place
-pub data DeviceCall (H : Type 0) : Type 0 where
-  Submits : Event → DeviceCall H
-  IsBusy : Bool → DeviceCall H
-  HasHandler : H → DeviceCall H
-  Withdraws : DeviceCall H
-  Lapses : DeviceCall H
-  Takes : List ℕ → ℕ → DeviceCall H
-  Ticks : ℕ → DeviceCall H
-  FallsSilent : ℕ → DeviceCall H
-  ReadsNext : DeviceCall H
-  LooksAhead : DeviceCall H
-  IsMadeAnew : ReaderConfig → H → Room → ℕ → DeviceCall H
+pub data DeviceUse (H : Type 0) : Type 0 where
+  Submits : Event → DeviceUse H
+  IsBusy : Bool → DeviceUse H
+  HasHandler : H → DeviceUse H
+  Withdraws : DeviceUse H
+  Lapses : DeviceUse H
+  Takes : List ℕ → ℕ → DeviceUse H
+  Ticks : ℕ → DeviceUse H
+  FallsSilent : ℕ → DeviceUse H
+  ReadsNext : DeviceUse H
+  LooksAhead : DeviceUse H
+  IsMadeAnew : ReaderConfig → H → Room → ℕ → DeviceUse H
 
 module _ {H : Type 0} where
   -- the call of a line in use that it is, at the entry of its device
-  abbrev pub call_of_device : ℕ → DeviceCall H → Call H
+  abbrev pub call_of_device : ℕ → DeviceUse H → Call H
   call_of_device k (Submits event) = SubmitEvent k event
   call_of_device k (IsBusy busy) = SetBusy k busy
   call_of_device k (HasHandler handler) = SetHandler k handler
@@ -151,7 +151,7 @@ module _ {H : Type 0} where
     Program = Held H;
     held = λ d. d;
     Sound = λ d. Unit {0};
-    Own = DeviceCall H;
+    Own = DeviceUse H;
     after = λ call d. device_after answer_of after (call_of_device 0 call) d;
     Fits = λ call d. Unit {0};
     calls = λ k call d. call_of_device k call ∷ [];

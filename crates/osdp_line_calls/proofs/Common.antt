@@ -13,14 +13,14 @@ pub use Rattle.osdp_frame.specs.Receiving.{ends_run, IsAllRead, IsReceived, Rece
 pub use Rattle.osdp_frame_laws.proofs.InTurn.{all_taken, item_leaves, item_read, none_left, over_items, over_leaves, piece_read, piece_some, piece_taken, PieceTaken}
 pub use Rattle.osdp_bus.specs.Entries.{first_from, is_at}
 pub use Rattle.osdp_line_calls.specs.Passing.{acts_on, acts_on_reason, Listening, number_text, opening_acts_on, passed_item, passed_items, passed_reading, passed_text}
-pub use Rattle.osdp_bus.specs.Deadlines.{IsDeadline}
+pub use Rattle.osdp_panel.specs.Deadlines.{IsDeadline}
 pub use Rattle.osdp_msg.specs.declared.command.Command.{Command}
 pub use Rattle.osdp_msg.specs.CommandTable.{CommandFits}
 pub use Rattle.osdp_msg.specs.CommandText.{command_words}
 pub use Rattle.osdp_msg.proofs.RowTexts.{differ, IsRow, row_read}
 pub use Rattle.osdp_words.specs.Word.{number, numbers, texts, Word}
-pub use Rattle.osdp_line_calls.specs.declared.panel_call.PanelCall.TheVariants.{Add, At, Begin, Bytes, Retarget, Silence, Submit, Tick, Withdraw}
-pub use Rattle.osdp_line_calls.specs.PanelCalls.{call_fields, call_name, CallFits, entry_word, IsAddress, IsEntry}
+pub use Rattle.osdp_line_calls.specs.declared.panel_call.PanelCall.TheVariants.{Add, At, Begin, Bytes, Retarget, Silence, Submit, Tick, Withdraw, Write}
+pub use Rattle.osdp_line_calls.specs.PanelCalls.{call_fields, call_name, CallFits, entry_word, IsAddress, IsEntry, IsMoment, until_word}
 pub use Rattle.osdp_controller.specs.Settings.{default_config, IsConfig}
 pub use Rattle.osdp_frame.specs.declared.check_kind.CheckKind.TheVariants.{Crc}
 pub use Rattle.osdp_bus.specs.Settings.{IsBusConfig}

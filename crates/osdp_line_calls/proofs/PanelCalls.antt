@@ -1,7 +1,7 @@
 -- What calls come to, where they end well.
 use Rattle.osdp_line_calls.proofs.Common.{◌≡◌, List, ◌++◌, ℕ, ◌<◌, ◌^◌, Option, Result, Ok, Err, refl, subst, ap, ◌∙◌, append_assoc, IfSome, OnOk, IsDeadline}
 use Rattle.osdp_line_calls.specs.PanelLines.{Ends}
-use Rattle.osdp_line_calls.specs.PanelSessions.{Called, Comes, IsDue, Session, after_text, ended}
+use Rattle.osdp_line_calls.specs.PanelSessions.{Called, Comes, IsDue, Session, after_text, ended, tells_all, then_tells}
 use Rattle.osdp_line_calls.specs.PanelTexts.{due_line}
 
 module _ {A E : Type 0} where
@@ -19,7 +19,7 @@ module _ {A E : Type 0} where
 
   -- the line that ends an answer was written
   pub due_written : (r : Result A E) (before t0 t1 : List ℕ) (s : Session) (done : Called) (due : Option ℕ) → OnOk r (t1 ≡ t0 ++ due_line due)
-      → IsDeadline s.bus due → IfSome due (λ moment. moment < 2 ^ 64)
+      → IsDeadline s.panel due → IfSome due (λ moment. moment < 2 ^ 64)
       → OnOk r (Comes before t0 s done → (c : Called) × Ends done c × Comes before t1 s c)
   due_written (Ok x) before t0 t1 s done due writes deadline range = λ comes.
       let is : IsDue s due = record { deadline = deadline; range = range } in (
@@ -37,4 +37,13 @@ pub heard_first : (t0 t1 t2 : List ℕ) (s : Session) (heard : List ℕ) (c : Ca
 heard_first t0 t1 t2 s heard c is comes = record {
   text = comes.text ∙ ap (λ t. t ++ c.text) is ∙ append_assoc t0 heard c.text;
   session = comes.session;
+}
+
+-- all reports were told after what a call came to
+pub all_told : (t0 t1 t2 : List ℕ) (done next : Session) (c : Called) → Comes t0 t1 done c → t2 ≡ t1 ++ (tells_all done).text → next ≡ (tells_all done).session
+    → Comes t0 t2 next (then_tells c)
+all_told t0 t1 t2 done next c comes writes leaves = record {
+  text = writes ∙ ap (λ (s : Session). t1 ++ (tells_all s).text) comes.session ∙ ap (λ t. t ++ (tells_all c.session).text) comes.text
+      ∙ append_assoc t0 c.text (tells_all c.session).text;
+  session = leaves ∙ ap (λ (s : Session). (tells_all s).session) comes.session;
 }

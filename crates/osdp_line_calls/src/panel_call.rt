@@ -61,12 +61,12 @@ fn parse_address(word: &str) -> Option<Address>
 fn parse_until(word: &str) -> Option<u64>
     ensures { Reads until_word IsMoment word.now result }
 {
-    if word == "never" {
-        return Some(u64::MAX);
-    }
-    match number_u64(word)? {
-        u64::MAX => None,
-        until => Some(until),
+    match word {
+        "never" => Some(u64::MAX),
+        _ => match number_u64(word)? {
+            u64::MAX => None,
+            until => Some(until),
+        },
     }
 }
 

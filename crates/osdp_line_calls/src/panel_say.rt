@@ -60,11 +60,7 @@ fn event_name(maybe_again: bool) -> &'static str
 }
 
 /// Writes an event, and from when on its device may have offered it.
-fn push_event(
-    text: &mut String,
-    since: Option<u64>,
-    event: &Event<'_>,
-) -> Result<(), AllocError>
+fn push_event(text: &mut String, since: Option<u64>, event: &Event<'_>) -> Result<(), AllocError>
     ensures { OnOk result (string_bytes text.new ≡ string_bytes text.old ++ (since_text since ++ (event_text event.now ++ codes "\n"))) }
 {
     if let Some(moment) = since {
@@ -180,7 +176,11 @@ fn order_fault_name(fault: PanelFault) -> &'static str
 }
 
 /// Writes why an order is refused.
-pub(crate) fn push_order_refusal(text: &mut String, entry: EntryNumber, fault: PanelFault) -> Result<(), AllocError>
+pub(crate) fn push_order_refusal(
+    text: &mut String,
+    entry: EntryNumber,
+    fault: PanelFault,
+) -> Result<(), AllocError>
     ensures { OnOk result (string_bytes text.new ≡ string_bytes text.old ++ submit_line entry (Some fault) None) }
 {
     let name = order_fault_name(fault);
@@ -188,7 +188,11 @@ pub(crate) fn push_order_refusal(text: &mut String, entry: EntryNumber, fault: P
 }
 
 /// Writes that an order waits, and its number.
-pub(crate) fn push_waits(text: &mut String, entry: EntryNumber, number: u64) -> Result<(), AllocError>
+pub(crate) fn push_waits(
+    text: &mut String,
+    entry: EntryNumber,
+    number: u64,
+) -> Result<(), AllocError>
     ensures { OnOk result (string_bytes text.new ≡ string_bytes text.old ++ submit_line entry None (Some number)) }
 {
     let place = entry as u128 + 1;

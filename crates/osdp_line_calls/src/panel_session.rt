@@ -1,15 +1,16 @@
 //! A panel that is called by lines.
 
-ghost use Rattle.std.specs.Prelude.{◌≡◌, ◌++◌, ℕ, List, IfErr, IfOk, OnOk, Err, option_map, string_bytes};
+ghost use Rattle.std.specs.Prelude.{◌≡◌, ◌++◌, ℕ, List, IfErr, IfOk, OnOk, Err, if◌then◌else◌, is_some, option_map, string_bytes};
 ghost use Rattle.osdp_bus.specs.Machine.{add_refusal, changed_unless, withdrawal_at};
 ghost use Rattle.osdp_bus.specs.Settings.{IsBusConfig};
 ghost use Rattle.osdp_panel.specs.Giving.{after_give, after_withdraw, give_refusal};
 ghost use Rattle.osdp_panel.specs.Orders.{orders_at};
 ghost use Rattle.osdp_panel.specs.Panels.{NewEnds, after_add_at};
 ghost use Rattle.osdp_panel.specs.Sending.{after_write, written};
+ghost use Rattle.osdp_panel.specs.Telling.{tells};
 ghost use Rattle.osdp_line_calls.specs.PanelLines.{Ends, refuses};
-ghost use Rattle.osdp_line_calls.specs.PanelSessions.{Called, Comes, Session, answered, does, front_number_at, new_session, overhears, tells_all, ticks_at};
-ghost use Rattle.osdp_line_calls.specs.PanelTexts.{refusal_line, send_line, submit_line, withdrawal_line};
+ghost use Rattle.osdp_line_calls.specs.PanelSessions.{Called, Comes, Session, answered, does, front_number_at, new_session, overhears, settles, tells_all, ticks_at};
+ghost use Rattle.osdp_line_calls.specs.PanelTexts.{refusal_line, report_line, send_line, submit_line, withdrawal_line};
 
 use crate::listener::Listener;
 use crate::panel_call::PanelCall;
@@ -40,12 +41,7 @@ impl Model for LinePanel {
 }
 
 /// Adds a device, or writes why the call is refused.
-fn add(
-    panel: &mut Panel,
-    address: Address,
-    next: u64,
-    text: &mut String,
-) -> Result<(), AllocError>
+fn add(panel: &mut Panel, address: Address, next: u64, text: &mut String) -> Result<(), AllocError>
     ensures text { OnOk result (string_bytes text.new ≡ string_bytes text.old ++ refusal_line (add_refusal address panel.old.bus)) }
     ensures panel { OnOk result (panel.new ≡ changed_unless (add_refusal address panel.old.bus) panel.old (after_add_at address next panel.old)) }
 {
@@ -205,16 +201,27 @@ impl LinePanel {
         Ok(())
     }
 
-    /// Takes each report that there is, and writes it, until there is none.
+    /// Takes the first report that there is, and writes it. Whether there was one; else nothing changes.
+    fn tell_first(&mut self, text: &mut String) -> Result<bool, AllocError>
+        ensures some { IfOk result (λ is. is ≡ is_some (tells self.old.panel)) }
+        ensures text { OnOk result (string_bytes text.new ≡ string_bytes text.old ++ report_line (tells self.old.panel)) }
+        ensures session { OnOk result (self.new ≡ (if is_some (tells self.old.panel) then settles self.old else self.old)) }
+    {
+        let Some(report) = self.panel.report() else {
+            return Ok(false);
+        };
+        self.listener.hear_report(&self.panel.bus().report());
+        push_report(text, &report)?;
+        self.panel.settle();
+        Ok(true)
+    }
+
+    /// Takes all reports that there are, and writes each.
     pub(crate) fn tell(&mut self, text: &mut String) -> Result<(), AllocError>
         ensures text { OnOk result (string_bytes text.new ≡ string_bytes text.old ++ (tells_all self.old).text) }
         ensures session { OnOk result (self.new ≡ (tells_all self.old).session) }
     {
-        'reports: while let Some(report) = self.panel.report() {
-            self.listener.hear_report(&self.panel.bus().report());
-            push_report(text, &report)?;
-            self.panel.settle();
-        }
+        'reports: while self.tell_first(text)? {}
         Ok(())
     }
 

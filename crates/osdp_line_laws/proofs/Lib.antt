@@ -1,5 +1,6 @@
 pub mod Common
 pub mod Lines
+mod Reports
 pub mod OfPanels
 pub mod OfReaders
 pub mod PanelRuns

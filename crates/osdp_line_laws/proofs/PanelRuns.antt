@@ -1,19 +1,38 @@
 -- A run of lines to a panel, line by line.
-use Rattle.osdp_line_laws.proofs.Common.{◌≡◌, ◌∙◌, ap, subst, refl, ℕ, List, [], ◌∷◌, ◌++◌, Option, Some, None, inl, inr, sym, append_assoc, BusState, after_next_report, order_made, after_calls, orders, heard, IsSaid, PanelCall, At, Submit, CallFits, call_words, IsAnswered, refuses, opened_by, Called, IsDue, Session, answered, ended, overhears, due_line, calls_text, kept_back, RunsAreCalls, Tells, after_said, calls_of, said_text}
-use Rattle.osdp_line_laws.proofs.OfPanels.{made, order_taken}
+use Rattle.osdp_line_laws.proofs.Common.{◌≡◌, ◌∙◌, ap, subst, refl, ℕ, List, [], ◌∷◌, ◌++◌, Option, Some, None, inl, inr, heard, IsSaid, PanelCall, CallFits, call_words, IsAnswered, refuses, Called, IsDue, Session, answered, ended, overhears, due_line, RunsAreCalls, Tells, after_said, listening_after, moment_after, ordered, said_text}
+use Rattle.osdp_line_calls.specs.declared.panel_call.PanelCall.TheVariants as line
+use Rattle.osdp_line_calls.specs.PanelSessions.{does, most_reports}
+use Rattle.osdp_line_calls.specs.Passing.{Listening}
+use Rattle.osdp_line_laws.proofs.OfPanels.{done, made}
+use Rattle.osdp_line_laws.proofs.Reports.{all_heard, hears_told, some_taken}
+use Rattle.osdp_line_laws.specs.PanelRuns.{burst_said}
+use Rattle.osdp_panel.specs.Orders.{PanelState}
+
+now_is : (call : PanelCall) (s : Session) → (does call s).session.now ≡ moment_after call s.now
+now_is (line.At later) s = refl
+now_is call s = refl
+
+burst_is : (call : PanelCall) (s : Session) (l : Listening) → (does call (record s { listening = l })).session.burst ≡ burst_said call s
+burst_is line.Tick s l = refl
+burst_is call s l = refl
+
+pub listening_is : (call : PanelCall) (s : Session) → (does call s).session.listening ≡ s.listening
+listening_is (line.At later) s = refl
+listening_is call s = refl
 
 -- the whole panel after a call
-whole : (call : PanelCall) (s : Session) → (answered call s).session ≡ after_said (Some call) s
-whole (At later) s = refl
-whole (Submit entry command) s =
-    let from : BusState → BusState → Session = λ b c. record {
-      bus = c;
-      now = s.now;
-      listening = record s.listening { opened = opened_by b.devices.report s.listening.opened };
-    } in
-    let done = order_made entry command s.bus in
-    ap (λ b. from b (after_next_report b)) done ∙ ap (from (after_calls (orders entry command) s.bus)) (sym (order_taken entry command s.bus))
-whole call s = refl
+pub whole : (call : PanelCall) (s : Session) → (answered call s).session ≡ after_said (Some call) s
+whole call s =
+    let h = record s { listening = (overhears call s).after } in
+    let c = does call h in
+    let taken = some_taken (most_reports c.session.panel) [] c.session in
+    let panel = (made call s).panel in
+    let burst = taken.burst ∙ burst_is call s (overhears call s).after in
+    let now = taken.now ∙ now_is call h in
+    let listening : (answered call s).session.listening ≡ listening_after call s =
+    all_heard c.session ∙ ap (λ (p : PanelState). hears_told p.bus.devices.report c.session.listening) (done call h).panel
+    ∙ ap (hears_told _) (listening_is call h) in
+    (λ i. record { panel = panel i; burst = burst i; now = now i; listening = listening i })
 
 -- one line: what it says, the panel after it, and what is told
 record One (line : List ℕ) (s : Session) (text : List ℕ) (next : Session) : Type 0 where
@@ -35,8 +54,7 @@ one line s text next c (inl (call, says, ends)) text_is next_is =
       after = next_is ∙ ap (λ (x : Called). x.session) is ∙ whole call s;
       due = due;
       is_due = subst (λ (x : Session). IsDue x due) (whole call s) ends.1;
-      told = text_is ∙ ap (λ (x : Called). x.text) is ∙ ap (λ l. ((overhears call s).text ++ l) ++ due_line due) (made call s).text
-          ∙ ap (λ l. l ++ due_line due) (sym (append_assoc (overhears call s).text (kept_back call s.bus) (calls_text (calls_of call s.now) s.bus)));
+      told = text_is ∙ ap (λ (x : Called). x.text) is ∙ ap (λ l. ((overhears call s).text ++ l) ++ due_line due) (made call s).text;
     }
 one line s text next c (inr (nothing, ends)) text_is next_is =
     let due = ends.0 in

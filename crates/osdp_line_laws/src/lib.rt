@@ -1,6 +1,6 @@
 //! What lines to a panel or to a reader's device come to, in the words of the machines. The functions do nothing: their contracts are laws.
 //!
-//! A bus is proved after every list of calls, and a reader whatever it is called with. So what is proved of them holds of each program that is
+//! A panel is proved after every list of calls, and a reader whatever it is called with. So what is proved of them holds of each program that is
 //! called by lines, and the program writes what the machines' tables say of those calls.
 #![tactic(auto)]
 
@@ -27,13 +27,13 @@ pub fn a_devices_words_decide<R: Read, W: Write>()
     ensures { DevicesGoByWords R.remaining W.contents }
 {}
 
-/// A line to a panel whose orders wait for no POLLs is one call of its bus at most, and then the taking of the report that waits. What is written is what the bus refuses, sends and
-/// reports by that, after what it lets be heard beside the bus, and the moment of the next tick. A line that is none changes nothing.
+/// A line to a panel is one call of the panel at most, and then the taking of each report that there is, until there is none. What is written is what the panel refuses, accepts, gives out
+/// and reports by that, after what it lets be heard beside its bus, and the moment of the next turn. A line that is none changes nothing.
 pub fn a_line_is_a_call()
     ensures { IsCallOrNone }
 {}
 
-/// Lines to a new panel whose orders wait for no POLLs come to a list of calls of a new bus, so what the bus keeps after every list of calls holds after them.
+/// Lines to a new panel come to a list of calls of it, so what a panel keeps after every list of calls holds after them.
 pub fn a_panel_comes_of_calls()
     ensures { ComesOfCalls }
 {}
@@ -57,9 +57,9 @@ pub fn a_device_comes_of_steps()
     ensures { ComesOfSteps }
 {}
 
-/// To each line of a run, from the first to the last, a panel whose orders wait for no POLLs writes what is told of the calls that the line is. Before that comes what the line lets be
-/// heard beside the bus, and after it the moment of the next tick. Each call finds the panel as the calls before it have left it. After them it is the
-/// panel that these calls leave, and its calls to come have the moment of the last line of one.
+/// To each line of a run, from the first to the last, a panel writes what is told of the calls that the line is. Before that comes what the line lets be
+/// heard beside the bus, and after it the moment of the next turn. Each call finds the panel as the calls before it have left it. After them it is the
+/// panel that these calls leave, with the burst of the last tick that had one, and its calls to come have the moment of the last line of one.
 pub fn a_panels_run_is_its_calls()
     ensures { PanelRunsAreCalls }
 {}

@@ -196,7 +196,7 @@ module _ (k : ℕ) where
             stays = λ some. ap pending_in now ∙ sym (ap pending_in was ∙ goes.pending ∙ ap (λ l. l ++ pending e.controller) (silent some));
             arises = λ none.
                 ap pending_in was ∙ goes.pending ∙ ap (λ l. l ++ pending e.controller) (sym (tells none))
-                    ∙ ap (λ o. tells_at k (waiting_after i told ds.report) ++ pending_in o) (sym now);
+                ∙ ap (λ o. tells_at k (waiting_after i told ds.report) ++ pending_in o) (sym now);
             out_stays = λ some. let none : length (listed told) ≡ 0 = ap length (silent some) in omega (arith, before, after, goes_out, none);
             out_arises = λ none. let sizes : length (tells_at k (waiting_after i told ds.report)) ≡ length (listed told) = ap length (tells none) in
                 omega (arith, before, after, goes_out, sizes);
@@ -213,7 +213,7 @@ module _ (k : ℕ) where
             stays = λ some. ap pending_in same;
             arises = λ none.
                 ap (λ l. l ++ pending_at k ds.entries) (sym (tells none))
-                    ∙ ap (λ o. tells_at k (waiting_after i told ds.report) ++ pending_in o) (sym same);
+                ∙ ap (λ o. tells_at k (waiting_after i told ds.report) ++ pending_in o) (sym same);
             out_stays = λ some. omega (arith, sizes);
             out_arises = λ none. omega (arith, sizes);
             room = ap room_in same;

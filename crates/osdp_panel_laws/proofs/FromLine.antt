@@ -176,12 +176,15 @@ gives d = by_way (is_some (on_its_way d.controller.session.state)) refl d.contro
         )
     by_way false is (cmd ∷ w) same =
         let none = not_asked d.controller.session.state is in
-        inr (cmd, record {
-          is = ap (λ (x : Bool). if x then None else slice_get d.controller.waiting 0) is ∙ ap (λ l. slice_get l 0) same;
-          front = ap (λ o. option_to_list o ++ d.controller.waiting) none ∙ same
-              ∙ ap (λ l. cmd ∷ l) (sym (ap (λ (x : Bool). option_to_list (asked_in d.controller.session.state) ++ (if x then d.controller.waiting else drop 1 d.controller.waiting)) is
-              ∙ ap (λ o. option_to_list o ++ drop 1 d.controller.waiting) none ∙ ap (λ l. drop 1 l) same));
-        })
+        inr (
+          cmd,
+          record {
+            is = ap (λ (x : Bool). if x then None else slice_get d.controller.waiting 0) is ∙ ap (λ l. slice_get l 0) same;
+            front = ap (λ o. option_to_list o ++ d.controller.waiting) none ∙ same
+                ∙ ap (λ l. cmd ∷ l) (sym (ap (λ (x : Bool). option_to_list (asked_in d.controller.session.state) ++ (if x then d.controller.waiting else drop 1 d.controller.waiting)) is
+                ∙ ap (λ o. option_to_list o ++ drop 1 d.controller.waiting) none ∙ ap (λ l. drop 1 l) same));
+          },
+        )
 
 -- an order of this entry leaves its bus: a report or a call ended it
 pub leaves_back : (k : ℕ) (t : Tally) (b c : BusState) (os : List Orders) (told places : ℕ) (cmd : Command) → IsSo k t b os told places → c.config ≡ b.config

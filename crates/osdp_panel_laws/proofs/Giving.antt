@@ -33,7 +33,6 @@ use Rattle.osdp_panel_laws.specs.Outcome.{Ended, Order, accepted_as, accepted_in
 use Rattle.osdp_panel_laws.proofs.Ahead.{Leaves, leaves_bytes, leaves_run, leaves_tick, listed, pending_at, pending_in, room_at, room_in, set_count, set_other, set_same, tells_at}
 use Rattle.osdp_panel_laws.proofs.Standing.{Holds, IsCounted, IsQuiet, IsSo, Tally, as_it_is, ends_none, ends_one, get_both, kept_so, moments_at, moments_in, more, orders_are, pushed, pushed_at, pushed_none, quiet_begin, quiet_other, quiet_retarget, quiet_set, quiet_so, set_to, stands_by, there_is, waiting_of, waits_is, within}
 use Rattle.osdp_panel_laws.proofs.Tallies.{Stands, front_of, keep_all, numbered_on, size_new, stands_back, stands_new, stands_same, stands_told}
-
 use Rattle.osdp_panel_laws.proofs.FromLine.{GivesBack, Gives, brings_so, gives, kept_quiet, leaves_back, leaves_late}
 
 -- ---- a call that adds nothing
@@ -225,14 +224,18 @@ withdraws_is k entry b = by_place (entry == k) refl
             let e = entry_withdraws d in
             let set = slice_set b.devices.entries k e in
             let now : slice_get set k ≡ Some e = set_same b.devices.entries k d e at in
-            inr (refl, cmd, record {
-              gone = ap withdrawal_of at ∙ ap Ok back.is;
-              config = ap (λ (c : BusState). c.config) is;
-              room = ap (λ (c : BusState). room_at k c.devices.entries) is ∙ ap room_in now ∙ sym (ap room_in at);
-              count = ap (λ (c : BusState). length c.devices.entries) is ∙ set_count b.devices.entries k e;
-              report = ap (λ (c : BusState). c.devices.report) is;
-              pend = ap pending_in at ∙ back.front ∙ ap (λ o. cmd ∷ pending_in o) (sym now) ∙ ap (λ (c : BusState). cmd ∷ pending_at k c.devices.entries) (sym is);
-            })
+            inr (
+              refl,
+              cmd,
+              record {
+                gone = ap withdrawal_of at ∙ ap Ok back.is;
+                config = ap (λ (c : BusState). c.config) is;
+                room = ap (λ (c : BusState). room_at k c.devices.entries) is ∙ ap room_in now ∙ sym (ap room_in at);
+                count = ap (λ (c : BusState). length c.devices.entries) is ∙ set_count b.devices.entries k e;
+                report = ap (λ (c : BusState). c.devices.report) is;
+                pend = ap pending_in at ∙ back.front ∙ ap (λ o. cmd ∷ pending_in o) (sym now) ∙ ap (λ (c : BusState). cmd ∷ pending_at k c.devices.entries) (sym is);
+              },
+            )
 
     by_place : (x : Bool) → (entry == k) ≡ x → Withdraws k entry b
     by_place true same =
@@ -301,9 +304,9 @@ late_so k t p entry quiet is = by_gone (withdraws_is k entry p.bus)
         let number = front_number (device_of k p.bus) (orders_at k p) in
         let numbers : (o : Orders) → slice_get p.orders k ≡ Some o → number ≡ o.next - length (pending_at k p.bus.devices.entries) =
         λ o at.
-            let d = get_both p.orders p.bus.devices.entries k o is.entries at in
-            ap (λ e. front_number e (orders_at k p)) d.1 ∙ ap (λ x. front_number (Some d.0) x) at
-            ∙ ap (λ n. o.next - n) (orders_are d.0 ∙ ap (λ e. length (pending_in e)) (sym d.1)) in
+        let d = get_both p.orders p.bus.devices.entries k o is.entries at in
+        ap (λ e. front_number e (orders_at k p)) d.1 ∙ ap (λ x. front_number (Some d.0) x) at
+        ∙ ap (λ n. o.next - n) (orders_are d.0 ∙ ap (λ e. length (pending_in e)) (sym d.1)) in
         let so = leaves_late k t p.bus (after_withdraw_at k p.bus) p.orders p.told p.places number cmd is w.config w.room w.count w.report quiet w.pend numbers in
         let told : record { number = number; command = cmd } ∷ [] ≡ ended_by k (expired_of k (withdrawal_at k p.bus) p) =
         sym (ap (λ r. ended_by k (expired_of k r p)) w.gone ∙ ap (λ (x : Bool). if x then ended_as (Some number) (Some cmd) else []) (eq-eqb k k refl)) in

@@ -33,9 +33,7 @@ use Rattle.osdp_panel_laws.specs.Outcome.{Ended, Order, accepted_as, accepted_in
 use Rattle.osdp_panel_laws.proofs.Ahead.{Leaves, leaves_bytes, leaves_run, leaves_tick, listed, pending_at, pending_in, room_at, room_in, set_count, set_other, set_same, tells_at}
 use Rattle.osdp_panel_laws.proofs.Standing.{Holds, IsCounted, IsQuiet, IsSo, Tally, as_it_is, ends_none, ends_one, get_both, kept_so, moments_at, moments_in, more, orders_are, pushed, pushed_at, pushed_none, quiet_begin, quiet_other, quiet_retarget, quiet_set, quiet_so, set_to, stands_by, there_is, waiting_of, waits_is, within}
 use Rattle.osdp_panel_laws.proofs.Tallies.{Stands, front_of, keep_all, numbered_on, size_new, stands_back, stands_new, stands_same, stands_told}
-
 use Rattle.osdp_panel_laws.proofs.FromLine.{GivesBack, Gives, brings_so, gives, kept_quiet, leaves_back, leaves_late}
-
 use Rattle.osdp_bus.specs.Buses.{new_bus}
 use Rattle.osdp_bus.specs.Machine.{after_begin_at, after_retarget_at, begin_refusal_at, retarget_refusal_at}
 use Rattle.osdp_bus.specs.Settings.{IsBusConfig}
@@ -293,16 +291,19 @@ orders_have_one_outcome config calls is k o at =
     let h = all_steps k nothing_yet calls p (sound_from_new config is) (new_holds k config) in
     let d = get_both q.orders q.bus.devices.entries k o h.entries at in
     let s = h.stands in
-    let counted = h.some o at in
-    (d.0, d.1, record {
-      added = counted.first;
-      there = counted.there;
-      numbers = counted.numbers;
-      next = counted.next;
-      ended = s.ended;
-      still = s.still;
-      whole = s.whole;
-      each = subst (λ l. Shares s.ended (along (told_in k) calls p ++ l) (along (back_in k) calls p)) (sym (waits_is k q)) s.each;
-      ahead = s.ahead ∙ ap pending_in d.1 ∙ ap (λ o. option_to_list o ++ d.0.controller.waiting) (asked_same d.0.controller.session.state);
-      moments = s.until ∙ ap moments_in at;
-    })
+    let counted = h.some o at in (
+      d.0,
+      d.1,
+      record {
+        added = counted.first;
+        there = counted.there;
+        numbers = counted.numbers;
+        next = counted.next;
+        ended = s.ended;
+        still = s.still;
+        whole = s.whole;
+        each = subst (λ l. Shares s.ended (along (told_in k) calls p ++ l) (along (back_in k) calls p)) (sym (waits_is k q)) s.each;
+        ahead = s.ahead ∙ ap pending_in d.1 ∙ ap (λ o. option_to_list o ++ d.0.controller.waiting) (asked_same d.0.controller.session.state);
+        moments = s.until ∙ ap moments_in at;
+      },
+    )

@@ -279,8 +279,8 @@ quiet_begin k entry now b = unless_quiet (begin_refusal_at entry b) k b (after_b
     begins none =
         let q = quiet_change k entry (entry_begins (max b.greatest now)) (seen now b) (λ d at. (
           let closed = closed_asks d.controller.session.state
-          (none_mapped Rattle.osdp_bus.specs.Machine.bus_fault (refused_unless_closed d.controller.session.state) (ap begin_refusal_of (sym at) ∙ none)) in
-          sym (ap (λ o. option_to_list o ++ d.controller.waiting) closed),
+              (none_mapped Rattle.osdp_bus.specs.Machine.bus_fault (refused_unless_closed d.controller.session.state) (ap begin_refusal_of (sym at) ∙ none)) in
+              sym (ap (λ o. option_to_list o ++ d.controller.waiting) closed),
           refl,
         )) in
         record { config = q.config; report = q.report; pending = q.pending; room = q.room; count = q.count }
@@ -376,7 +376,11 @@ module _ (k : ℕ) (t : Tally) (b c : BusState) (os : List Orders) (told places 
           let same : kept (device_of k c) x.0 ≡ o = (let e = sym (kept_at os k 0 k c x.0 (omega arith) x.1) ∙ at in cc) in
           let counted = is.some x.0 x.1 in
           let here : IsCounted k (record t { told = told_list; back = back }) x.0 b.devices.entries = record {
-            first = counted.first; there = counted.there; numbers = counted.numbers; next = counted.next; room = counted.room;
+            first = counted.first;
+            there = counted.there;
+            numbers = counted.numbers;
+            next = counted.next;
+            room = counted.room;
           } in
           subst (λ y. IsCounted k (record t { told = told_list; back = back }) y c.devices.entries) same
           (kept_counted k (record t { told = told_list; back = back }) (device_of k c) x.0 c.devices.entries

@@ -28,12 +28,12 @@ is_line = record { bus = refl; devices = there }
 all_fit : AllFit line_panel line_device (owns line_panel line_device day_by_lines) programs
 unfolding items left_over decided reply_of reply_fault reply_at command_of command_fault command_at
 all_fit =
-    (tt, (tt, (tt, (tt, (tt, (tt, (omega arith, (bytes_fit (take 5 (asks 3 0 (97 ∷ 0 ∷ []))) refl, (omega arith, (bytes_fit (drop 5 (asks 3 0 (97 ∷ 0 ∷ []))) refl, (omega arith, (bytes_fit (asks 3 0 (97 ∷ 0 ∷ [])) refl, (tt, (tt, (tt, (tt, (tt, (tt, (omega arith, (bytes_fit (asks 4 0 (97 ∷ 0 ∷ [])) refl, (tt, (tt, ((omega arith, one_byte), (tt, (tt, (tt, (omega arith, (bytes_fit (83 ∷ 3 ∷ 11 ∷ 0 ∷ 1 ∷ 104 ∷ 0 ∷ 2 ∷ 0 ∷ 0 ∷ 0 ∷ []) refl, (omega arith, (tt, (tt, (tt, (omega arith, (bytes_fit (asks 3 1 ordered_on) refl, (omega arith, (bytes_fit (asks 3 1 ordered_on) refl, (tt, (tt, (key_fits, (tt, (tt, (tt, (omega arith, (bytes_fit (asks 4 1 (96 ∷ [])) refl, (tt, (tt, (tt, (tt, (omega arith, (bytes_fit (asks 3 2 (96 ∷ [])) refl, (tt, (tt, (tt, (tt, (tt, (omega arith, (bytes_fit (asks 3 2 (96 ∷ [])) refl, (tt, (tt, (tt, (tt, (omega arith, (bytes_fit (asks 4 2 (96 ∷ [])) refl, (tt, (tt, (tt, (tt, (tt, (tt, (tt, (tt, (tt, (tt, (tt, (tt, (tt, (tt, (omega arith, (omega arith, (bytes_fit (asks 4 3 (96 ∷ [])) refl, (tt, (tt, (tt, (tt, (omega arith, (bytes_fit (asks 3 0 (97 ∷ 0 ∷ [])) refl, (tt, (tt, (tt, (tt, (omega arith, (bytes_fit (asks 3 1 (96 ∷ [])) refl, (tt, (tt, (tt, (tt, (tt, (omega arith, (bytes_fit (asks 3 2 (110 ∷ 5 ∷ 128 ∷ 37 ∷ 0 ∷ 0 ∷ [])) refl, (tt, (tt, (tt, (tt, (tt, (tt, (omega arith, (bytes_fit (asks 5 0 (97 ∷ 0 ∷ [])) refl, (tt, (tt, (tt, (tt, (tt, (omega arith, (bytes_fit (asks 5 1 (98 ∷ 0 ∷ [])) refl, ((refl, (refl, (refl, tt))), (tt, (tt, (tt, (tt, (omega arith, (bytes_fit (asks 5 0 (97 ∷ 0 ∷ [])) refl, (tt, (tt, (key_fits, (tt, (tt, (omega arith, (bytes_fit (asks 5 1 (96 ∷ [])) refl, (omega arith, (tt, (tt, (omega arith, (bytes_fit (asks 5 1 (96 ∷ [])) refl, (tt, (tt, tt)))))))))))))))))))))))))))))))))))))))))))))))))))))))))))))))))))))))))))))))))))))))))))))))))))))))))))))))))))))))))))))))))))))))
+    (tt, (tt, (tt, (tt, (tt, (tt, (tt, (omega arith, (bytes_fit (take 5 (asks 3 0 (97 ∷ 0 ∷ []))) refl, (omega arith, (bytes_fit (drop 5 (asks 3 0 (97 ∷ 0 ∷ []))) refl, (omega arith, (bytes_fit (asks 3 0 (97 ∷ 0 ∷ [])) refl, (tt, (tt, (tt, (tt, (tt, (tt, (tt, (tt, (tt, (omega arith, (bytes_fit (asks 4 0 (97 ∷ 0 ∷ [])) refl, (tt, (tt, (tt, ((omega arith, one_byte), (tt, (tt, (tt, (tt, (omega arith, (bytes_fit (83 ∷ 3 ∷ 11 ∷ 0 ∷ 1 ∷ 104 ∷ 0 ∷ 2 ∷ 0 ∷ 0 ∷ 0 ∷ []) refl, (omega arith, (tt, (tt, (tt, (tt, (omega arith, (bytes_fit (asks 3 1 ordered_on) refl, (omega arith, (bytes_fit (asks 3 1 ordered_on) refl, (tt, (tt, (tt, (key_fits, (tt, (tt, (tt, (tt, (omega arith, (bytes_fit (asks 4 1 (96 ∷ [])) refl, (tt, (tt, (tt, (tt, (tt, (tt, (omega arith, (bytes_fit (asks 3 2 (96 ∷ [])) refl, (tt, (tt, (tt, (tt, (tt, (tt, (tt, (omega arith, (bytes_fit (asks 3 2 (96 ∷ [])) refl, (tt, (tt, (tt, (tt, (tt, (tt, (omega arith, (bytes_fit (asks 4 2 (96 ∷ [])) refl, (tt, (tt, (tt, (tt, (tt, (tt, (tt, (tt, (tt, (tt, (tt, (tt, (tt, (tt, (tt, (tt, (tt, (tt, (tt, (tt, (tt, (tt, (tt, (omega arith, (omega arith, (bytes_fit (asks 4 3 (96 ∷ [])) refl, (tt, (tt, (tt, (tt, (tt, (tt, (omega arith, (bytes_fit (asks 3 0 (97 ∷ 0 ∷ [])) refl, (tt, (tt, (tt, (tt, (tt, (tt, (omega arith, (bytes_fit (asks 3 1 (96 ∷ [])) refl, (tt, (tt, (tt, (tt, (tt, (tt, (tt, (omega arith, (bytes_fit (asks 3 2 (110 ∷ 5 ∷ 128 ∷ 37 ∷ 0 ∷ 0 ∷ [])) refl, (tt, (tt, (tt, (tt, (tt, (tt, (tt, (tt, (omega arith, (bytes_fit (asks 5 0 (97 ∷ 0 ∷ [])) refl, (tt, (tt, (tt, (tt, (tt, (tt, (tt, (tt, (tt, (tt, (tt, (tt, (tt, (tt, (tt, (tt, (tt, (tt, (omega arith, (bytes_fit (asks 5 0 (97 ∷ 0 ∷ [])) refl, (tt, (tt, (tt, (tt, (tt, (tt, (tt, (tt, (omega arith, (bytes_fit (asks 5 1 (98 ∷ 0 ∷ [])) refl, ((refl, (refl, (refl, tt))), (tt, (tt, (tt, (tt, (tt, (omega arith, (bytes_fit (asks 5 0 (97 ∷ 0 ∷ [])) refl, (tt, (tt, (tt, (key_fits, (tt, (tt, (tt, (omega arith, (bytes_fit (asks 5 1 (96 ∷ [])) refl, (omega arith, (tt, (tt, (tt, (omega arith, (bytes_fit (asks 5 1 (96 ∷ [])) refl, (tt, (tt, (tt, tt)))))))))))))))))))))))))))))))))))))))))))))))))))))))))))))))))))))))))))))))))))))))))))))))))))))))))))))))))))))))))))))))))))))))))))))))))))))))))))))))))))))))))))))))))))))))))))))))))))
 
 ranges : AllRanges status_answer status_after (steps_of line_panel line_device day_by_lines programs) (first_line new_status)
 unfolding items left_over decided reply_of reply_fault reply_at command_of command_fault command_at
 ranges =
-    (tt, (tt, (tt, (tt, (tt, (tt, (tt, (tt, (tt, (tt, (tt, (tt, ((id_fits, tt), (tt, (tt, ((tt, tt), (tt, (tt, (tt, (tt, (tt, (tt, (tt, (tt, (tt, (tt, ((id_fits, tt), (tt, (tt, (tt, (tt, (tt, (output_fits, (tt, (tt, (tt, (tt, (tt, (tt, (tt, (tt, (tt, (tt, (tt, (tt, ((tt, tt), (tt, (tt, ((tt, tt), (tt, (tt, (tt, (tt, (tt, (tt, (tt, (tt, (tt, (tt, ((tt, tt), (tt, (tt, (tt, (tt, (tt, (tt, (tt, (tt, ((tt, tt), (tt, (tt, (tt, (tt, (tt, (tt, (tt, (tt, (tt, ((key_fits, tt), (tt, (tt, (tt, (tt, (tt, (tt, (tt, (tt, ((tt, tt), (tt, (tt, (tt, (tt, (tt, (tt, (tt, (tt, (tt, (tt, (tt, (tt, (tt, (omega arith, (tt, (tt, (tt, (tt, (tt, (tt, (tt, (tt, (tt, ((omega arith, room_fits), (tt, ((nak_fits, tt), (tt, (tt, (tt, (tt, (tt, (tt, (tt, (tt, ((id_fits, tt), (tt, (tt, (tt, (tt, (tt, (tt, (tt, (tt, ((key_fits, tt), (tt, (tt, (tt, (tt, ((omega arith, omega arith), (tt, (tt, (tt, (tt, (tt, (((omega arith, omega arith), tt), (tt, (tt, (tt, (tt, (tt, (tt, (tt, (tt, (tt, (tt, (tt, ((id_fits, tt), (tt, (tt, (tt, (tt, (omega arith, (tt, (tt, (tt, (tt, (tt, (((omega arith, each_all CapabilityFits [] tt), tt), (tt, ((twice_fits, (omega arith, (omega arith, (omega arith, tt))), omega arith), (tt, (tt, (tt, (tt, (tt, (tt, (tt, ((id_fits, tt), (tt, (tt, (tt, (tt, (tt, (tt, (tt, (tt, (tt, ((key_fits, tt), (tt, (tt, (tt, (tt, (tt, (tt, ((tt, tt), (tt, (tt, (tt, (tt, tt)))))))))))))))))))))))))))))))))))))))))))))))))))))))))))))))))))))))))))))))))))))))))))))))))))))))))))))))))))))))))))))))))))))))))))))))))))))))))))))))))))))))))))))))))))))))))))))))))))))
+    (tt, (tt, (tt, (tt, (tt, (tt, (tt, ((id_fits, tt), (tt, (tt, ((tt, tt), (tt, (tt, (tt, (tt, (tt, (tt, (tt, (tt, ((id_fits, tt), (tt, (tt, (tt, (tt, (tt, (output_fits, (tt, (tt, (tt, (tt, (tt, (tt, (tt, (tt, (tt, ((tt, tt), (tt, (tt, ((tt, tt), (tt, (tt, (tt, (tt, (tt, (tt, (tt, (tt, (tt, ((tt, tt), (tt, (tt, (tt, (tt, (tt, (tt, ((tt, tt), (tt, (tt, (tt, (tt, (tt, (tt, (tt, ((key_fits, tt), (tt, (tt, (tt, (tt, (tt, (tt, (tt, ((tt, tt), (tt, (tt, (tt, (tt, (tt, (tt, (tt, (tt, (tt, (tt, (omega arith, (tt, (omega arith, (tt, (tt, (tt, (tt, (tt, (tt, ((omega arith, room_fits), (tt, ((nak_fits, tt), (tt, (tt, (tt, (tt, (tt, (tt, (tt, ((id_fits, tt), (tt, (tt, (tt, (tt, (tt, (tt, (tt, ((key_fits, tt), (tt, (tt, (tt, (tt, ((omega arith, omega arith), (tt, (tt, (tt, (((omega arith, omega arith), tt), (tt, (tt, (tt, (tt, (tt, (tt, (tt, (tt, ((id_fits, tt), (tt, (tt, (tt, (tt, (omega arith, (tt, (tt, (tt, (tt, (tt, (tt, (tt, (tt, (tt, (tt, (tt, ((id_fits, tt), (tt, (tt, (tt, (tt, (omega arith, (omega arith, (tt, (tt, (tt, (((omega arith, each_all CapabilityFits [] tt), tt), (tt, ((twice_fits, (omega arith, (omega arith, (omega arith, tt))), omega arith), (tt, (tt, (tt, (tt, ((id_fits, tt), (tt, (tt, (tt, (tt, (tt, (tt, (tt, (tt, ((key_fits, tt), (tt, (tt, (tt, (tt, (tt, ((tt, tt), (tt, (tt, (tt, (tt, tt)))))))))))))))))))))))))))))))))))))))))))))))))))))))))))))))))))))))))))))))))))))))))))))))))))))))))))))))))))))))))))))))))))))))))))))))))))))))))))))))))))))))))))))))))))))
 
 pub day_by_lines_keeps : DayByLinesKeeps
 unfolding items left_over decided reply_of reply_fault reply_at command_of command_fault command_at

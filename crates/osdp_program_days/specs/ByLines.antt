@@ -1,5 +1,5 @@
 -- That day by lines: which lines a panel of `osdp panel` and two devices of `osdp reader` are given. Each line of a call comes after one of its moment.
-use Rattle.std.specs.Prelude.{ℕ, false, List, [], ◌∷◌, flat_map, Some}
+use Rattle.std.specs.Prelude.{ℕ, false, List, [], ◌∷◌, ◌++◌, flat_map, Some}
 use Rattle.osdp_device.specs.Status.{new_status, status_after, status_answer}
 use Rattle.osdp_line_calls.specs.PanelSessions as panel_sessions
 use Rattle.osdp_line_calls.specs.ReaderSessions as device_sessions
@@ -12,7 +12,7 @@ use Rattle.osdp_calls_instance.specs.LinePrograms.{DeviceAnew, PanelAnew, SaysTo
 use Rattle.osdp_calls_instance.specs.OwnCalls.{AtDevice, AtPanel, Programs}
 use Rattle.osdp_premises.specs.LongDay.{device_at, key, twice}
 use Rattle.osdp_program_days.specs.Days.{DayKeeps, Made}
-use Rattle.osdp_program_days.specs.Happening.{Begins, DeviceDoes, DeviceHears, DeviceIsMadeAnew, GetsOneMore, Happening, HasOutput, Hears, IsBusy, IsMadeAnew, KeyIsPressed, LetsOldGo, Orders, SeesSilence, Sends, TakesBack, day}
+use Rattle.osdp_program_days.specs.Happening.{Begins, DeviceDoes, DeviceHears, DeviceIsMadeAnew, GetsOneMore, Happening, HasOutput, Hears, IsBusy, IsMadeAnew, KeyIsPressed, LetsOldGo, Orders, SeesSilence, Sends, TakesBack, day, first_at}
 
 -- while the panel is gone, events leave that are older than a second, and nothing is told of the panel
 abbrev pub second : Absence
@@ -21,7 +21,7 @@ second = record { expire = 1000; told = false }
 -- a panel whose third entry is a device of another make, and two devices
 abbrev pub programs : Programs line_panel line_device
 programs = record {
-  panel = after_adds (3 ∷ 4 ∷ 20 ∷ []) (panel_sessions.new_session twice);
+  panel = after_adds (first_at 3 ∷ first_at 4 ∷ first_at 20 ∷ []) (panel_sessions.new_session twice);
   devices = device_sessions.new_session (device_at 3) 4 20 second ∷ device_sessions.new_session (device_at 4) 4 20 second ∷ [];
 }
 
@@ -44,12 +44,12 @@ device_at_moment now k call places = device k (to_device.At now) [] ∷ device k
 -- the lines by which something happens
 abbrev pub by_lines : Happening → List (Made line_panel line_device)
 by_lines (Begins entry now) = panel_at now (to_panel.Begin entry) []
-by_lines (Orders entry command) = panel (to_panel.Submit entry command) [] ∷ []
+by_lines (Orders entry command until) = panel (to_panel.Submit entry until command) [] ∷ []
 by_lines (TakesBack entry) = panel (to_panel.Withdraw entry) [] ∷ []
-by_lines (Sends now) = panel_at now to_panel.Tick []
-by_lines (Hears bytes now places) = panel_at now (to_panel.Bytes (record { items = bytes })) places
-by_lines (IsMadeAnew addresses) = record { own = AtPanel (PanelAnew twice addresses); places = [] } ∷ []
-by_lines (GetsOneMore address) = panel (to_panel.Add address) [] ∷ []
+by_lines (Sends now) = panel_at now to_panel.Tick [] ++ panel to_panel.Write [] ∷ []
+by_lines (Hears bytes now places) = panel_at now (to_panel.Bytes (record { items = bytes })) places ++ panel to_panel.Tick [] ∷ []
+by_lines (IsMadeAnew entries) = record { own = AtPanel (PanelAnew twice entries); places = [] } ∷ []
+by_lines (GetsOneMore address next) = panel (to_panel.Add address next) [] ∷ []
 by_lines (HasOutput k) = device k (to_device.Outputs (record { items = 0 ∷ [] })) [] ∷ []
 by_lines (DeviceHears k bytes now places) = device_at_moment now k (to_device.Bytes (record { items = bytes })) places
 by_lines (DeviceDoes k bytes now places) = device_at_moment now k (to_device.Bytes (record { items = bytes })) places

@@ -5,7 +5,7 @@ use Rattle.osdp_msg.specs.declared.event.Event.{Event}
 use Rattle.osdp_msg.specs.declared.reply.Reply.{Reply}
 use Rattle.osdp_msg.specs.declared.reply.Reply.TheVariants as reply
 use Rattle.osdp_bus_laws.specs.Calls as bus
-use Rattle.osdp_ledger.specs.History.{AfterReport, CutOff, End, Exit, GivenBack, History, Lapsed, Left, Settled, new_history, runs}
+use Rattle.osdp_ledger.specs.History.{AfterReport, CutOff, End, Exit, Forgotten, GivenBack, History, InDoubt, Lapsed, Left, Settled, new_history, runs}
 use Rattle.osdp_ledger.specs.Ledger.{Card, Order}
 use Rattle.osdp_reader.specs.declared.handler.Answer.{Answer}
 use Rattle.osdp_calls.specs.Calls.{Call, Next, OfPanel, Step}
@@ -55,14 +55,15 @@ module _ {H : Type 0} (P : PanelKind H) (D : DeviceKind H) (answer_of : H → Co
   abbrev pub history_of : List (Made P D) → Programs P D → H → History
   history_of day w handler = runs (steps_from answer_of after 0 (station_at 3 handler) (steps_of P D day w) (first_line handler)) new_history
 
-  -- In four sessions an order was settled, one was given back, a COMSET was settled, and one was cut off when the panel was made anew; the device acted on
-  -- three of these. A key was reported in the first session, and again in the second, and left. Another lapsed in the fourth, and was reported after that.
+  -- In five sessions an order was settled, one was taken back, one expired, a COMSET was settled, one whose repeat was withheld was told in doubt, and when the panel was made
+  -- anew one was cut off and one that waited was forgotten; the device acted on three of these. A key was reported in the first session, and again in the second, and left. Another
+  -- lapsed in the fifth, and was reported after that.
   pub record DayKeeps (day : List (Made P D)) (w : Programs P D) (handler : H) : Type 0 where
     pub calls : AreTheirCalls P D answer_of after (owns P D day) w (first_line handler) (steps_of P D day w)
     pub keep : AllKeep answer_of after (steps_of P D day w) (first_line handler)
-    pub sessions : (history_of day w handler).sessions ≡ 4
+    pub sessions : (history_of day w handler).sessions ≡ 5
     pub ended : map (λ (e : Order × End). e.1) (history_of day w handler).ended
-        ≡ Settled reply.Ack ∷ GivenBack ∷ Settled (reply.Com (record { address = 5; baud_rate = 9600 })) ∷ CutOff ∷ []
-    pub acted : map (λ (a : Order × Reply). a.0.place) (history_of day w handler).acted ≡ 0 ∷ 2 ∷ 3 ∷ []
-    pub reported : map {B = ℕ × Event} (λ (told : ℕ × Card). (told.0, told.1.event)) (history_of day w handler).reports ≡ (1, key) ∷ (2, key) ∷ (4, key) ∷ []
-    pub left : map {B = ℕ × Exit} (λ (gone : Left). (gone.session, gone.why)) (history_of day w handler).left ≡ (2, AfterReport) ∷ (4, Lapsed) ∷ []
+        ≡ Settled reply.Ack ∷ GivenBack ∷ GivenBack ∷ Settled (reply.Com (record { address = 5; baud_rate = 9600 })) ∷ InDoubt ∷ CutOff ∷ Forgotten ∷ []
+    pub acted : map (λ (a : Order × Reply). a.0.place) (history_of day w handler).acted ≡ 0 ∷ 3 ∷ 5 ∷ []
+    pub reported : map {B = ℕ × Event} (λ (told : ℕ × Card). (told.0, told.1.event)) (history_of day w handler).reports ≡ (1, key) ∷ (2, key) ∷ (5, key) ∷ []
+    pub left : map {B = ℕ × Exit} (λ (gone : Left). (gone.session, gone.why)) (history_of day w handler).left ≡ (2, AfterReport) ∷ (5, Lapsed) ∷ []

@@ -3,19 +3,21 @@ use Rattle.std.specs.Prelude.{ℕ, Bool, List, [], ◌∷◌, ◌++◌, take, dr
 use Rattle.osdp_msg.specs.declared.command.Command.{Command}
 use Rattle.osdp_msg.specs.declared.command.Command.TheVariants.{Cap, Output}
 use Rattle.osdp_msg.specs.declared.outputs.OutputRecord.{OutputRecord}
+use Rattle.osdp_panel.specs.Orders.{never}
+use Rattle.osdp_calls_instance.specs.Panels.{FirstEntry}
 use Rattle.osdp_premises.specs.LongDay.{answers, asks, away}
 
 -- Moments are milliseconds. Where an end reads, the places stand in what was said on the line: those of the packets that it reads.
 pub data Happening : Type 0 where
-  -- the panel begins a session of an entry at a moment; orders; takes an order back; sends what is due at a moment; hears bytes at a moment; is made anew with
-  -- entries at these addresses; and gets one more at an address
+  -- the panel begins a session of an entry at a moment; orders, until a moment; takes an order back; sends what is due at a moment, and takes what is to be told; hears
+  -- bytes at a moment, takes what is to be told, and ticks; is made anew with these entries; and gets one more at an address, whose first order has this number
   Begins : ℕ → ℕ → Happening
-  Orders : ℕ → Command → Happening
+  Orders : ℕ → Command → ℕ → Happening
   TakesBack : ℕ → Happening
   Sends : ℕ → Happening
   Hears : List ℕ → ℕ → List ℕ → Happening
-  IsMadeAnew : List ℕ → Happening
-  GetsOneMore : ℕ → Happening
+  IsMadeAnew : List FirstEntry → Happening
+  GetsOneMore : ℕ → ℕ → Happening
   -- the device of an entry has one output, which is off; hears bytes at a moment; hears an order that its program decides, and does it; sees the line silent;
   -- a key is pressed there; it is busy from now on, or isn't any more; at a moment it lets the oldest event go that waits, where that is older than a second
   -- and no packet has come for eight; and it is made anew at an address
@@ -27,6 +29,10 @@ pub data Happening : Type 0 where
   IsBusy : ℕ → Bool → Happening
   LetsOldGo : ℕ → ℕ → Happening
   DeviceIsMadeAnew : ℕ → ℕ → Happening
+
+-- an entry at an address, of a device that never had an order
+abbrev pub first_at : ℕ → FirstEntry
+first_at address = record { address = address; next = 0 }
 
 -- what a device says of itself, and an order: output 0 on, for good
 abbrev pub identity : List ℕ
@@ -61,7 +67,7 @@ opening =
 abbrev pub order : List Happening
 order =
     HasOutput 0
-    ∷ Orders 0 (Output (on ∷ []))
+    ∷ Orders 0 (Output (on ∷ [])) 5000
     ∷ Sends 411
     ∷ DeviceHears 0 (83 ∷ 3 ∷ 11 ∷ 0 ∷ 1 ∷ 104 ∷ 0 ∷ 2 ∷ 0 ∷ 0 ∷ 0 ∷ []) 412 []
     ∷ SeesSilence 0 413
@@ -88,7 +94,7 @@ busy =
     ∷ Hears (answers 3 2 (83 ∷ 0 ∷ 1 ∷ 49 ∷ [])) 720 (13 ∷ [])
     ∷ []
 
--- The next POLL is lost twice, and the session has ended. An order is taken back.
+-- The next POLL is lost twice, and the session has ended. An order is taken back. Another may be sent until this moment.
 abbrev pub lost : List Happening
 lost =
     Sends 769
@@ -97,14 +103,16 @@ lost =
     ∷ Sends 770
     ∷ Sends 970
     ∷ Sends 1170
-    ∷ Orders 0 (Cap 0)
+    ∷ Orders 0 (Cap 0) never
     ∷ TakesBack 0
+    ∷ Orders 0 (Cap 0) 1170
     ∷ []
 
--- The other device loses power, and is made anew. It refuses the number of the next POLL.
+-- A millisecond later that order has expired: the tick sends nothing, and it is told. The other device loses power, and is made anew. It refuses the number of the next POLL.
 abbrev pub restart : List Happening
 restart =
     Begins 0 1171
+    ∷ Sends 1171
     ∷ Sends 1172
     ∷ DeviceIsMadeAnew 1 4
     ∷ DeviceHears 1 (asks 4 3 (96 ∷ [])) 1173 (18 ∷ [])
@@ -125,7 +133,7 @@ again =
 -- A COMSET is settled: the device goes to 5, and the next session opens there.
 abbrev pub move : List Happening
 move =
-    Orders 0 (away 5)
+    Orders 0 (away 5) 5000
     ∷ Sends 1628
     ∷ DeviceHears 0 (asks 3 2 (110 ∷ 5 ∷ 128 ∷ 37 ∷ 0 ∷ 0 ∷ [])) 1629 (24 ∷ [])
     ∷ Hears (answers 3 2 (84 ∷ 5 ∷ 128 ∷ 37 ∷ 0 ∷ 0 ∷ [])) 1631 (25 ∷ [])
@@ -135,17 +143,32 @@ move =
     ∷ Hears (answers 5 0 identity) 2035 (27 ∷ [])
     ∷ []
 
--- An order is acted on, and the panel is made anew before its answer comes. The next session begins without it.
+-- An order goes out, and is lost. Its repeat is withheld, since the last moment of the order has passed. So the session ends, and what became of the order is unknown. The next
+-- session opens.
+abbrev pub withheld : List Happening
+withheld =
+    Orders 0 (Cap 0) 2100
+    ∷ Sends 2036
+    ∷ Sends 2236
+    ∷ Sends 2436
+    ∷ Begins 0 2437
+    ∷ Sends 2837
+    ∷ DeviceHears 0 (asks 5 0 (97 ∷ 0 ∷ [])) 2838 (30 ∷ [])
+    ∷ Hears (answers 5 0 identity) 2840 (31 ∷ [])
+    ∷ []
+
+-- An order is acted on while another one waits, and the panel is made anew before the answer comes, with the number that it has stored. The next session begins without them.
 abbrev pub panel_restart : List Happening
 panel_restart =
-    Orders 0 (Cap 0)
-    ∷ Sends 2036
-    ∷ DeviceHears 0 (asks 5 1 (98 ∷ 0 ∷ [])) 2037 (28 ∷ [])
-    ∷ IsMadeAnew (5 ∷ 4 ∷ 20 ∷ [])
-    ∷ Begins 0 2040
-    ∷ Sends 2440
-    ∷ DeviceHears 0 (asks 5 0 (97 ∷ 0 ∷ [])) 2441 (30 ∷ [])
-    ∷ Hears (answers 5 0 identity) 2443 (31 ∷ [])
+    Orders 0 (Cap 0) never
+    ∷ Orders 0 (Cap 0) never
+    ∷ Sends 2841
+    ∷ DeviceHears 0 (asks 5 1 (98 ∷ 0 ∷ [])) 2842 (32 ∷ [])
+    ∷ IsMadeAnew (record { address = 5; next = 7 } ∷ record { address = 4; next = 0 } ∷ record { address = 20; next = 0 } ∷ [])
+    ∷ Begins 0 2845
+    ∷ Sends 3245
+    ∷ DeviceHears 0 (asks 5 0 (97 ∷ 0 ∷ [])) 3246 (34 ∷ [])
+    ∷ Hears (answers 5 0 identity) 3248 (35 ∷ [])
     ∷ []
 
 -- A key is pressed, and told, but the answer is lost. The panel says nothing for nine seconds. So the device lets the key go, in doubt. Then the panel asks once
@@ -153,14 +176,14 @@ panel_restart =
 abbrev pub lapse : List Happening
 lapse =
     KeyIsPressed 0
-    ∷ Sends 2493
-    ∷ DeviceHears 0 (asks 5 1 (96 ∷ [])) 2494 (32 ∷ [])
+    ∷ Sends 3298
+    ∷ DeviceHears 0 (asks 5 1 (96 ∷ [])) 3299 (36 ∷ [])
     ∷ LetsOldGo 0 12000
     ∷ Sends 12001
-    ∷ DeviceHears 0 (asks 5 1 (96 ∷ [])) 12002 (34 ∷ [])
-    ∷ Hears (answers 5 1 (83 ∷ 0 ∷ 1 ∷ 49 ∷ [])) 12004 (35 ∷ [])
+    ∷ DeviceHears 0 (asks 5 1 (96 ∷ [])) 12002 (38 ∷ [])
+    ∷ Hears (answers 5 1 (83 ∷ 0 ∷ 1 ∷ 49 ∷ [])) 12004 (39 ∷ [])
     ∷ []
 
 -- all that happens on that day
 abbrev pub day : List Happening
-day = opening ++ order ++ busy ++ lost ++ restart ++ again ++ move ++ panel_restart ++ lapse
+day = opening ++ order ++ busy ++ lost ++ restart ++ again ++ move ++ withheld ++ panel_restart ++ lapse

@@ -15,10 +15,11 @@ use Rattle.osdp_entry_numbers.specs.Day.{around, between, own_line, without}
 use Rattle.osdp_entry_numbers.specs.Numbers.{Numbers}
 use Rattle.osdp_entry_numbers.specs.OwnOrder.{AllOwnKeep, OwnStep}
 use Rattle.osdp_entry_numbers.specs.Promises.{own_steps_from}
+use Rattle.osdp_panel.specs.Orders.{never}
 use Rattle.osdp_premises.specs.LongDay.{answers, asks, key, station_at, twice}
 use Rattle.osdp_programs_ledger.specs.OwnOrder.{AreOwnCalls}
 use Rattle.osdp_program_days.specs.Days.{Made, owns, steps_of}
-use Rattle.osdp_program_days.specs.Happening.{Begins, DeviceHears, GetsOneMore, Happening, Hears, IsMadeAnew, KeyIsPressed, Orders, Sends, identity}
+use Rattle.osdp_program_days.specs.Happening.{Begins, DeviceHears, GetsOneMore, Happening, Hears, IsMadeAnew, KeyIsPressed, Orders, Sends, first_at, identity}
 use Rattle.osdp_program_days.specs.InC.{device_at, in_c, minute}
 
 -- The sessions of the device of another make and of that at 4 begin, in the panel's order. An order to the device at 4 goes out, and the panel is made anew without
@@ -28,19 +29,19 @@ abbrev pub day : List Happening
 day =
     Begins 1 0
     ∷ Begins 2 0
-    ∷ Orders 2 (Cap 0)
+    ∷ Orders 2 (Cap 0) never
     ∷ Sends 400
     ∷ Hears (answers 20 0 identity) 401 []
     ∷ Sends 402
     ∷ DeviceHears 1 (asks 4 0 (97 ∷ 0 ∷ [])) 403 (0 ∷ [])
     ∷ Hears (answers 4 0 identity) 405 (1 ∷ [])
     ∷ Sends 406
-    ∷ IsMadeAnew (20 ∷ 3 ∷ [])
+    ∷ IsMadeAnew (first_at 20 ∷ first_at 3 ∷ [])
     ∷ DeviceHears 1 (asks 4 1 (98 ∷ 0 ∷ [])) 407 (2 ∷ [])
     ∷ KeyIsPressed 1
     ∷ Hears (answers 4 1 (70 ∷ [])) 409 (3 ∷ [])
     ∷ Begins 2 410
-    ∷ IsMadeAnew (4 ∷ 20 ∷ 3 ∷ [])
+    ∷ IsMadeAnew (record { address = 4; next = 1 } ∷ first_at 20 ∷ first_at 3 ∷ [])
     ∷ Begins 0 411
     ∷ Sends 811
     ∷ DeviceHears 1 (asks 4 0 (97 ∷ 0 ∷ [])) 812 (4 ∷ [])
@@ -48,9 +49,9 @@ day =
     ∷ Sends 864
     ∷ DeviceHears 1 (asks 4 1 (96 ∷ [])) 865 (6 ∷ [])
     ∷ Hears (answers 4 1 (83 ∷ 0 ∷ 1 ∷ 49 ∷ [])) 867 (7 ∷ [])
-    ∷ IsMadeAnew (20 ∷ 3 ∷ [])
+    ∷ IsMadeAnew (first_at 20 ∷ first_at 3 ∷ [])
     ∷ Hears (answers 4 1 (83 ∷ 0 ∷ 1 ∷ 49 ∷ [])) 867 (7 ∷ [])
-    ∷ GetsOneMore 4
+    ∷ GetsOneMore 4 1
     ∷ Begins 2 869
     ∷ Sends 1269
     ∷ DeviceHears 1 (asks 4 0 (97 ∷ 0 ∷ [])) 1270 (8 ∷ [])
@@ -64,7 +65,7 @@ day_in_c = flat_map in_c day
 -- a panel whose second entry is a device of another make, and two devices
 abbrev pub programs : Programs c_panel c_device
 programs = record {
-  panel = panel_made twice minute (3 ∷ 20 ∷ 4 ∷ []);
+  panel = panel_made twice minute (first_at 3 ∷ first_at 20 ∷ first_at 4 ∷ []);
   devices = device_at 3 ∷ device_at 4 ∷ [];
 }
 

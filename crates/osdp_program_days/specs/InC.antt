@@ -5,11 +5,11 @@ use Rattle.osdp_c_values.specs.declared.machine.ReaderMachine.{ReaderMachine}
 use Rattle.osdp_c_values.specs.declared.settings.ReaderSettings.{ReaderSettings}
 use Rattle.osdp_c_values.specs.declared.states.StateList.TheVariants.{Outputs}
 use Rattle.osdp_device.specs.Program.{new_program, program_after, program_answer}
-use Rattle.osdp_calls_instance.specs.CPrograms.{Adds, AnswerDone, Begin, Bytes, DeviceCall, DeviceMade, DeviceSilence, DeviceTick, ExpiresEvent, Happens, NextReport, PanelAnew, PanelCall, PanelTick, SetBusyTo, SetStates, SubmitText, TakesBytes, Withdraw, c_device, c_panel, panel_made}
+use Rattle.osdp_calls_instance.specs.CPrograms.{Adds, AnswerDone, Begin, Bytes, DeviceCall, DeviceMade, DeviceSilence, DeviceTick, ExpiresEvent, Happens, NextReport, PanelAnew, PanelCall, PanelTick, PanelWrite, SetBusyTo, SetStates, SubmitText, TakesBytes, Withdraw, c_device, c_panel, panel_made}
 use Rattle.osdp_calls_instance.specs.OwnCalls.{AtDevice, AtPanel, Programs}
 use Rattle.osdp_premises.specs.LongDay.{four, key, twice}
 use Rattle.osdp_program_days.specs.Days.{DayKeeps, Made}
-use Rattle.osdp_program_days.specs.Happening.{Begins, DeviceDoes, DeviceHears, DeviceIsMadeAnew, GetsOneMore, Happening, HasOutput, Hears, IsBusy, IsMadeAnew, KeyIsPressed, LetsOldGo, Orders, SeesSilence, Sends, TakesBack, day}
+use Rattle.osdp_program_days.specs.Happening.{Begins, DeviceDoes, DeviceHears, DeviceIsMadeAnew, GetsOneMore, Happening, HasOutput, Hears, IsBusy, IsMadeAnew, KeyIsPressed, LetsOldGo, Orders, SeesSilence, Sends, TakesBack, day, first_at}
 
 -- a device at this address, by the settings of the call that makes it
 abbrev pub settings_at : ℕ → ReaderSettings
@@ -33,7 +33,7 @@ minute = 60000
 -- a panel whose third entry is a device of another make, and two devices
 abbrev pub programs : Programs c_panel c_device
 programs = record {
-  panel = panel_made twice minute (3 ∷ 4 ∷ 20 ∷ []);
+  panel = panel_made twice minute (first_at 3 ∷ first_at 4 ∷ first_at 20 ∷ []);
   devices = device_at 3 ∷ device_at 4 ∷ [];
 }
 
@@ -48,12 +48,12 @@ device k call places = record { own = AtDevice k call; places = places }
 -- the calls for C by which something happens
 abbrev pub in_c : Happening → List (Made c_panel c_device)
 in_c (Begins entry now) = panel (Begin entry now) [] ∷ []
-in_c (Orders entry command) = panel (SubmitText entry (Some command)) [] ∷ []
+in_c (Orders entry command until) = panel (SubmitText entry (Some command) until) [] ∷ []
 in_c (TakesBack entry) = panel (Withdraw entry) [] ∷ []
-in_c (Sends now) = panel (PanelTick now) [] ∷ panel NextReport [] ∷ []
-in_c (Hears bytes now places) = panel (Bytes bytes now) places ∷ panel NextReport [] ∷ []
-in_c (IsMadeAnew addresses) = panel (PanelAnew twice minute addresses) [] ∷ []
-in_c (GetsOneMore address) = panel (Adds address) [] ∷ []
+in_c (Sends now) = panel (PanelTick now) [] ∷ panel (PanelWrite now) [] ∷ panel NextReport [] ∷ []
+in_c (Hears bytes now places) = panel (Bytes bytes now) places ∷ panel NextReport [] ∷ panel (PanelTick now) [] ∷ []
+in_c (IsMadeAnew entries) = panel (PanelAnew twice minute entries) [] ∷ []
+in_c (GetsOneMore address next) = panel (Adds address next) [] ∷ []
 in_c (HasOutput k) = device k (SetStates Outputs (0 ∷ [])) [] ∷ []
 in_c (DeviceHears k bytes now places) = device k (TakesBytes bytes now) places ∷ []
 in_c (DeviceDoes k bytes now places) = device k (TakesBytes bytes now) [] ∷ device k AnswerDone [] ∷ device k (DeviceTick now) places ∷ []

@@ -210,15 +210,16 @@ usage: osdp panel [SETTING VALUE]...
 Input: a call on each line. Another program carries the port: share/osdp/examples/panel.py is one. Devices
 count from 1, in the order in which they were added.
 
-  at MOMENT           the moment of the lines to come, in milliseconds
-  add ADDRESS         a device joins the line
-  begin I             the session of device I begins
-  submit I WORD...    a command for it
-  withdraw I          the command that has waited longest is taken back
-  retarget I ADDRESS  the device is at this address from now on
-  bytes HEX           these bytes have come
-  silence             the line was silent
-  tick                what is due is done
+  at MOMENT               the moment of the lines to come, in milliseconds
+  add ADDRESS NUMBER      a device joins the line; its first order has this number, 0 where it never had one
+  begin I                 the session of device I begins
+  submit I UNTIL WORD...  an order for it: a command that may go out until this moment, or never is too late
+  withdraw I              the order that has waited longest is taken back
+  retarget I ADDRESS      the device is at this address from now on
+  bytes HEX               these bytes have come
+  silence                 the line was silent
+  tick                    what is due is done
+  write                   the bytes of the tick's burst go out at this moment
 
 Commands of submit, by their texts. Times are in 100 ms, that of TEXT in seconds. docs/PROTOCOL.md has all.
 
@@ -234,35 +235,42 @@ Commands of submit, by their texts. Times are in 100 ms, that of TEXT in seconds
 
 Answers: before the last line of an answer stand lines like these.
 
+  burst                 a burst is to go out: call write
   send HEX              write these bytes to the line at once
+  order N               comes before what is told of an order: its number
+  waits I               an order was accepted
   opened I PDID..       the session is open
   settled I X = Y       command X was answered Y; a NAK says that it wasn't done
   moved I X = Y         COMSET X is done, and the session closed: once all have moved set the port, and begin
-  event I X             the device tells X
-  maybe-again I X       the same of an event that may have been told before: make no second order of it
+  event I since M X     the device tells X; the POLL that it answers was first sent at moment M
+  maybe-again I ..      the same of an event that may have been told before: make no second order of it
   answered I X          a POLL was answered X, which is no event
   unread I code XX..    the answer can't be read; the command that may follow may have been done or not
-  lost I CAUSE..        the session is closed: no-reply, too-busy or number-refused; a command as with unread
+  lost I CAUSE..        the session is closed: no-reply, too-busy or number-refused; a command as with unread,
+                        with withheld before it where a packet of it wasn't given out, being too late
+  expired I X           the last moment of command X has passed while it waited: it never goes out
   passed over I X       what the device says while no session is open: NAK 6 that it demands Secure Channel
   withdrawn I X         command X was taken back
   refused line          no call: its name, how many words it has, or one that is no value or out of its range
   refused B2, B3        sixteen devices are there; the address is another device's, or reserved for one
   refused B4, B5        there is no device I; the address is 127
-  refused B6            a COMSET goes to an address above 126
+  refused B6, B7        a COMSET goes to an address above 126; the device has used up its numbers
   refused C3, C4        no room for another command; a POLL is not submitted
   refused C5            the session is not closed
   due MOMENT, due none  the last line: the moment of the next tick
 
 Examples:
 
-  $ printf 'add 5\\nbegin 1\\nat 400\\ntick\\n' | osdp panel
+  $ printf 'add 5 0\\nbegin 1\\nat 400\\ntick\\nwrite\\n' | osdp panel
   due none
   due 400
   due 400
+  burst
+  due 600
   send 53050900046100C125
   due 600
 
-  $ printf 'submit 1 OUT 0:2:0\\n' | osdp panel capacity 4
+  $ printf 'submit 1 never OUT 0:2:0\\n' | osdp panel capacity 4
   refused B4
   due none
 ";

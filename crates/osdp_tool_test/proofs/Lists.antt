@@ -1,8 +1,9 @@
 -- What a test remembers is what the list of what was sent and heard comes to, place by place.
 use Rattle.osdp_tool_test.proofs.Common.{◌≡◌, ◌∙◌, ap, sym, refl, ℕ, suc, Bool, true, false, if◌then◌else◌, List, [], ◌∷◌, ◌++◌, map, length, append-nil, Option, Some, None, subst, Told, asks, breaks, device, keeps, opens, skips, times, Line, rule_in, after_breaks, after_each, after_exchange, after_keeps, after_said, after_seen, after_times, all_entries, begun_done, begun_entry, judged_entry, left_out, new_test, with_entry, with_known, with_run, DeviceTest, Exchange, Form}
 use Rattle.std.proofs.Common.{append_assoc}
-use Rattle.std.proofs.lemmas.Bool.{eq-eqb, eqb-false, eqb-true}
-use Rattle.std.specs.Prelude.{◌==◌, ◌≢◌}
+use Rattle.std.proofs.Common.{arith}
+use Rattle.std.proofs.lemmas.Bool.{eq-eqb, eqb-true, ne_eqb}
+use Rattle.std.specs.Prelude.{◌==◌}
 use Rattle.osdp_frame.specs.Packet.{Packet}
 use Rattle.osdp_rules.specs.Claims.{no_claims}
 use Rattle.osdp_rules.specs.Runs.{Sent, claims_along, claims_next, found, heard, known_along, known_next, verdict_from, verdict_on, verdict_with}
@@ -18,7 +19,7 @@ use Rattle.osdp_rules.specs.declared.verdict.Verdict.TheVariants as verdict
 use Rattle.osdp_tool_test.specs.Entries.{by_ground, new_entry}
 use Rattle.osdp_tool_test.specs.Lists.{AllName, EndElsewhere, IsJudged, IsScenario, JudgesByTheList, after_lines, all_places, line_places, named, places_in, places_of, verdict_by, why_skipped}
 use Rattle.osdp_tool_test.specs.Tests.{entries_with}
-use Rattle.osdp_tool_test.specs.Seen.{Seen, answers, is_answered, seen, seen_in, seen_of, sent}
+use Rattle.osdp_tool_test.specs.Seen.{Seen, answers, first_two, in_a_row, is_answered, seen, seen_of, sent}
 use Rattle.osdp_tool_test.specs.declared.rules.Ground.{Ground}
 use Rattle.osdp_tool_test.specs.declared.rules.Ground.TheVariants.{Asked, Habit, Open}
 use Rattle.osdp_tool_test.specs.declared.rules.Rule.{Rule}
@@ -28,6 +29,9 @@ use Rattle.osdp_tool_test.specs.declared.rules.Rule.{Rule}
 abbrev seen_as : Sent → Seen
 seen_as y = seen y.packet (heard y) (length y.answers) y.delay
 
+more_than_two : (ps : List Packet) → (suc (suc (suc (length ps))) == 2) ≡ false
+more_than_two ps = ne_eqb (suc (suc (suc (length ps)))) 2 (λ same. omega (arith, same))
+
 places_seen : (asked : Bool) (delay : ℕ) (packets heard : List Packet) → map seen_as (places_of asked delay packets heard) ≡ seen_of packets heard delay
 places_seen asked delay [] [] = refl
 places_seen asked delay [] (a ∷ more) = refl
@@ -36,9 +40,12 @@ places_seen asked delay (p ∷ []) (a ∷ more) = refl
 places_seen asked delay (p ∷ q ∷ []) [] = refl
 places_seen asked delay (p ∷ q ∷ []) (a ∷ []) = refl
 places_seen asked delay (p ∷ q ∷ []) (a ∷ b ∷ []) = refl
-places_seen asked delay (p ∷ q ∷ []) (a ∷ b ∷ c ∷ more) = refl
-places_seen asked delay (p ∷ q ∷ r ∷ ps) [] = refl
-places_seen asked delay (p ∷ q ∷ r ∷ ps) (a ∷ more) = refl
+places_seen asked delay (p ∷ q ∷ []) (a ∷ b ∷ c ∷ more) = sym (ap (λ (t : Bool). in_a_row (Some p, Some q) (Some a, Some b) t delay) (more_than_two more))
+places_seen asked delay (p ∷ q ∷ r ∷ ps) [] =
+    sym (ap (λ (t : Bool). if t then in_a_row (Some p, Some q) (None, None) false delay else seen (Some p) None 0 delay ∷ []) (more_than_two ps))
+places_seen asked delay (p ∷ q ∷ r ∷ ps) (a ∷ more) =
+    sym (ap (λ (t : Bool). if t then in_a_row (Some p, Some q) (first_two (a ∷ more)) (length (a ∷ more) == 2) delay else seen (Some p) (Some a) (length (a ∷ more)) delay ∷ [])
+    (more_than_two ps))
 
 -- all of its places are asked, or none
 abbrev AllAre : Bool → List Sent → Type 0
@@ -127,8 +134,8 @@ ground_first Habit = refl
 -- ---- what the test remembers
 
 record Knows (rules : List Rule) (address : ℕ) (past : List Sent) (t : DeviceTest) : Type 0 where
-  rules : t.rules ≡ rules
-  address : t.address ≡ address
+  rules_are : t.rules ≡ rules
+  address_is : t.address ≡ address
   known : t.known ≡ known_along address Unknown past
   claims : t.claims ≡ claims_along address Unknown no_claims past
 
@@ -193,12 +200,12 @@ module _ (asked : Bool) (x : Exchange) (rule : Rule) (y : Sent) (t : DeviceTest)
 
   place_knows : (rules : List Rule) (address : ℕ) (past : List Sent) → Knows rules address past t → Knows rules address (past ++ y ∷ []) next
   place_knows rules address past k = record {
-    rules = k.rules;
-    address = k.address;
+    rules_are = k.rules_are;
+    address_is = k.address_is;
     known =
-        ap (λ (a : ℕ). known_next a y.packet (heard y) t.known) k.address ∙ ap (known_next address y.packet (heard y)) k.known ∙ sym (known_more address Unknown past y);
+        ap (λ (a : ℕ). known_next a y.packet (heard y) t.known) k.address_is ∙ ap (known_next address y.packet (heard y)) k.known ∙ sym (known_more address Unknown past y);
     claims =
-        ap (λ (a : ℕ). claims_next a t.known y.packet (heard y) t.claims) k.address ∙ ap (λ (l : Known). claims_next address l y.packet (heard y) t.claims) k.known
+        ap (λ (a : ℕ). claims_next a t.known y.packet (heard y) t.claims) k.address_is ∙ ap (λ (l : Known). claims_next address l y.packet (heard y) t.claims) k.known
         ∙ ap (claims_next address (known_along address Unknown past) y.packet (heard y)) k.claims ∙ sym (claims_more address Unknown no_claims past y);
   }
 
@@ -245,7 +252,7 @@ module _ (rules : List Rule) (address : ℕ) (rule : Rule) (earlier : List Sent)
       let f = found rule.aspect address (known_along address (known_along address Unknown earlier) done)
       (claims_along address (known_along address Unknown earlier) (claims_along address Unknown no_claims earlier) done) y in
       let finds : found rule.aspect t.address t.known t.claims y ≡ f =
-      ap (λ (a : ℕ). found rule.aspect a t.known t.claims y) k.address ∙ ap (λ (l : Known). found rule.aspect address l t.claims y) known
+      ap (λ (a : ℕ). found rule.aspect a t.known t.claims y) k.address_is ∙ ap (λ (l : Known). found rule.aspect address l t.claims y) known
       ∙ ap (λ (c : Claims). found rule.aspect address (known_along address (known_along address Unknown earlier) done) c y) claims in
       let goes : verdict_with asked (found rule.aspect t.address t.known t.claims y) (so_far done) ≡ so_far (done ++ y ∷ []) =
       ap (λ (g : Finding). verdict_with asked g (so_far done)) finds ∙ ap (λ (b : Bool). verdict_with b f (so_far done)) (sym is)
@@ -267,7 +274,7 @@ module _ (rules : List Rule) (address : ℕ) (rule : Rule) (earlier : List Sent)
 
 with_run_knows : (x : Exchange) (answered : Bool) (t : DeviceTest) (rules : List Rule) (address : ℕ) (past : List Sent) → Knows rules address past t
     → Knows rules address past (with_run x answered t)
-with_run_knows x answered t rules address past k = record { rules = k.rules; address = k.address; known = k.known; claims = k.claims }
+with_run_knows x answered t rules address past k = record { rules_are = k.rules_are; address_is = k.address_is; known = k.known; claims = k.claims }
 
 as_places : (asked : Bool) (x : Exchange) (rule : Rule) (t : DeviceTest)
     → after_exchange asked x (Some rule) t ≡ after_each asked x rule (map seen_as (places_in asked x)) (with_run x (is_answered x) t)
@@ -306,7 +313,7 @@ module _ (rules : List Rule) (address : ℕ) (rule : Rule) (earlier : List Sent)
       → JudgedSo (done ++ places_in asked x) why (after_exchange asked x (rule_in t.rules x.number) t) × Reads n (after_exchange asked x (rule_in t.rules x.number) t)
   exchange_judged asked x t done why same j =
       let k = j.knows in
-      let here = there_is t rules x.number n rule k.rules same is in
+      let here = there_is t rules x.number n rule k.rules_are same is in
       let mine : Judged rules address rule earlier x.number done why t = subst (λ (m : ℕ). Judged rules address rule earlier m done why t) (sym same) j in
       let h = mine.has in
       let runs : Judged rules address rule earlier x.number done why (with_run x (is_answered x) t) = record {
@@ -315,9 +322,9 @@ module _ (rules : List Rule) (address : ℕ) (rule : Rule) (earlier : List Sent)
       } in
       let all = each_judged rules address rule earlier asked x (places_in asked x) (with_run x (is_answered x) t) done why
       (all_are asked x.delay (sent x) (answers x)) runs in
-      let then = subst (Judged rules address rule earlier x.number (done ++ places_in asked x) why) (sym (as_places asked x rule t)) all in (
+      let after_it = subst (Judged rules address rule earlier x.number (done ++ places_in asked x) why) (sym (as_places asked x rule t)) all in (
         subst (λ (o : Option Rule). JudgedSo (done ++ places_in asked x) why (after_exchange asked x o t)) (sym here)
-            (subst (λ (m : ℕ). Judged rules address rule earlier m (done ++ places_in asked x) why (after_exchange asked x (Some rule) t)) same then),
+            (subst (λ (m : ℕ). Judged rules address rule earlier m (done ++ places_in asked x) why (after_exchange asked x (Some rule) t)) same after_it),
         subst (λ (o : Option Rule). Reads n (after_exchange asked x o t)) (sym here)
             (subst (λ (m : ℕ). Reads m (after_exchange asked x (Some rule) t)) same (exchange_reads asked x rule t)),
       )
@@ -334,7 +341,7 @@ module _ (rules : List Rule) (address : ℕ) (rule : Rule) (earlier : List Sent)
       let f : Told = record e { skipped = next } in
       let on = goes_on n rule f (begun_number n rule t.current) in (
         record {
-          knows = record { rules = k.rules; address = k.address; known = k.known; claims = k.claims };
+          knows = record { rules_are = k.rules_are; address_is = k.address_is; known = k.known; claims = k.claims };
           has = record { verdict = ap (λ (r : Told). r.verdict) on ∙ h.verdict; skipped = ap (λ (r : Told). r.skipped) on };
         },
         record { entry = f; current = refl; number = begun_number n rule t.current },
@@ -348,7 +355,7 @@ module _ (rules : List Rule) (address : ℕ) (rule : Rule) (earlier : List Sent)
   line_judged (skips x) t done why scenario j =
       let k = j.knows in
       subst (λ (l : List Sent). JudgedSo l x.why (left_out x (rule_in t.rules x.number) t) × Reads n (left_out x (rule_in t.rules x.number) t)) (sym (append-nil done))
-      (subst (λ (o : Option Rule). JudgedSo done x.why (left_out x o t) × Reads n (left_out x o t)) (sym (there_is t rules x.number n rule k.rules scenario.0 is))
+      (subst (λ (o : Option Rule). JudgedSo done x.why (left_out x o t) × Reads n (left_out x o t)) (sym (there_is t rules x.number n rule k.rules_are scenario.0 is))
       (left_judged x.number why x.why t done scenario.0 j))
   line_judged (device a) t done why scenario j = absurd scenario
   line_judged (times m) t done why scenario j = absurd scenario
@@ -401,11 +408,11 @@ module _ (rules : List Rule) (address : ℕ) where
       → Knows rules address (past ++ []) (with_entry m rule change t)
   changed_knows m rule change t past k =
       subst (λ (l : List Sent). Knows rules address l (with_entry m rule change t)) (sym (append-nil past))
-      (record { rules = k.rules; address = k.address; known = k.known; claims = k.claims })
+      (record { rules_are = k.rules_are; address_is = k.address_is; known = k.known; claims = k.claims })
 
   -- the rule of a line, as the test finds it
   found_so : (m n : ℕ) (rule : Rule) (t : DeviceTest) (past : List Sent) → Knows rules address past t → Some m ≡ Some n → rule_in rules n ≡ Some rule → rule_in t.rules m ≡ Some rule
-  found_so m n rule t past k same is = there_is t rules m n rule k.rules (same_number m n same) is
+  found_so m n rule t past k same is = there_is t rules m n rule k.rules_are (same_number m n same) is
 
   line_knows : (line : Line) (t : DeviceTest) (past : List Sent) → IsOfRule line → Knows rules address past t
       → Knows rules address (past ++ line_places line) (after_said (Some line) t)
@@ -484,7 +491,7 @@ module _ (rules : List Rule) (address : ℕ) where
 pub judges_by_the_list : JudgesByTheList
 judges_by_the_list form rules address n rule earlier first scenario names ends is all =
     let start = after_said (Some (device address)) (new_test form rules) in
-    let knows : Knows rules address [] start = record { rules = refl; address = refl; known = refl; claims = refl } in
+    let knows : Knows rules address [] start = record { rules_are = refl; address_is = refl; known = refl; claims = refl } in
     let t = after_lines earlier start in
     let fresh = fresh_after rules address n rule earlier start names ends knows refl in
     let before = all_places earlier in

@@ -88,7 +88,7 @@ after_lines (line ∷ lines) t = after_lines lines (after_said (Some line) t)
 -- a habit is never broken: what would break another rule leaves it open
 abbrev pub verdict_by : Ground → Verdict → Verdict
 verdict_by Habit verdict.Broken = verdict.Either
-verdict_by asked v = v
+verdict_by _ v = v
 
 -- the last entry is the rule's. Its verdict is the one on the list of what went over the line: of what came before its scenario, and of the scenario. It is told as left out where it was,
 -- and where its verdict says nothing

@@ -6,6 +6,6 @@ use Rattle.osdp_calls_instance.proofs.calls_for_c_are_calls.Goals as goal
 pub returns : goal.returns
 returns c = record {
   added = adds_in_use;
-  anew = makes_anew c.stands_on_calls.ensures.adds;
-  line = call_the_line program_answer program_after c.stands_on_calls.ensures.own c_panel c_device panels_are devices_are;
+  anew = makes_anew;
+  line = call_the_line program_answer program_after c.stands_on_calls.ensures.own c_panel c_device (panels_are c.stands_on_calls.ensures.adds) devices_are;
 }

@@ -18,7 +18,7 @@ returns c =
     let devices = either_device c_device line_device in
     let are = either_are program_answer program_after status_answer status_after c_device line_device in_c.devices_are by_lines.device_lines_are in
     let own = c.ends_go_by_their_own_calls.ensures.own in
-    let of_c = programs_hold c_panel devices answer after (call_the_line answer after own c_panel devices in_c.panels_are are) c.ledger_holds_once.ensures.calls in
+    let of_c = programs_hold c_panel devices answer after (call_the_line answer after own c_panel devices (in_c.panels_are c.adds_make_the_bus.ensures) are) c.ledger_holds_once.ensures.calls in
     let of_lines = programs_hold line_panel devices answer after (call_the_line answer after own line_panel devices (by_lines.panel_lines_are c.adds_make_the_bus.ensures) are) c.ledger_holds_once.ensures.calls in
     record {
       c = of_c;
