@@ -100,7 +100,10 @@ OPTIONS = (
         "--keep", "FILE", RUNS, "of panel and reader: the store, which has where devices are", is_file=True
     ),
     Option(
-        "--new", None, (*RUNS, "serve"), "with --keep: makes that store, where there is none; of serve: the same, and ends"
+        "--new",
+        None,
+        (*RUNS, "serve"),
+        "with --keep: makes that store, where there is none; of serve: the same, and ends",
     ),
     Option("--config", "FILE", ("serve",), "of serve: the configuration, in TOML", is_file=True),
     Option("--check", None, ("serve",), "of serve: says what is wrong with the configuration, and ends"),
