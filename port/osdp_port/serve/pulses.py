@@ -1,5 +1,6 @@
 """Pulses: each second the service tells its own clock. An order that names the last one that its sender has seen
 was made after that. So its time is over in time wherever it lay, and nobody's clock must agree with another's."""
+import secrets
 import time
 
 from .messages import Rejected
@@ -8,9 +9,13 @@ SECOND = 1000  # milliseconds
 
 
 def boot():
-    """The start of this computer, from which its clock counts."""
-    with open("/proc/sys/kernel/random/boot_id", encoding="ascii") as file:
-        return file.read().strip()
+    """The start of this computer, from which its clock counts. Where the system doesn't tell it, a pulse is of
+    this run alone."""
+    try:
+        with open("/proc/sys/kernel/random/boot_id", encoding="ascii") as file:
+            return file.read().strip()
+    except OSError:
+        return secrets.token_hex(16)
 
 
 BOOT = boot()
