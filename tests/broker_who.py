@@ -4,6 +4,7 @@ A wrong password and a wrong certificate are told; who may not order moves nothi
 hashed; an outcome and events are had by asking; systemd is told; SIGTERM says goodbye, and forgets what waits. Prints each fault."""
 import json
 import os
+import re
 import socket
 import ssl
 import subprocess
@@ -121,7 +122,7 @@ class Place:
         asks(done.returncode == 0, f"no store is made: {done.stderr}")
 
     def serves(self, name, **more):
-        return self.starts(self.words(name), name, **more)
+        return self.starts([*self.words(name), "--metrics", self.work / f"{name}.prom"], name, **more)
 
     def says(self, text):
         self.line.stdin.write(f"{text}\n".encode())
@@ -211,6 +212,16 @@ def states(place, doors):
     doors.publishes("door-3/wanted", None, retain=True)
 
 
+def metrics(place):
+    """Each metric has its help and its kind, and the counts of each device grow."""
+    path = place.work / "north.prom"
+    text = path.read_text() if path.exists() else ""
+    names = re.findall(r"^# TYPE (\w+) (?:counter|gauge)$", text, re.M)
+    asks(len(names) == 7 and all(f"# HELP {name} " in text for name in names), f"metrics: {text}")
+    asks(all(re.match(r"# |\w+\{line=\"north\"(,device=\"door-[123]\")?\} \d+$", line) for line in text.splitlines()), f"metrics that are none: {text}")
+    asks(waits(lambda: re.search(r"^osdp_packets_total\{line=\"north\",device=\"door-2\"\} [1-9]\d+$", path.read_text(), re.M), 30), "no packets are counted")
+
+
 def is_alone(place):
     """A second store doesn't get the line while it is served."""
     place.configures("second", "osdp-north")
@@ -257,7 +268,7 @@ def main():
             service = place.serves("north", env={**os.environ, "NOTIFY_SOCKET": str(work / "notify")})
             asks(manager.recv(99) == b"READY=1" and manager.recv(99) == b"WATCHDOG=1", "systemd isn't told that it is ready")
             doors, record = User(place.port, work, "doors"), User(place.port, work, "record")
-            orders(place, doors, record), cards(place, doors, record), states(place, doors), is_alone(place), goodbye(place, doors, service)
+            orders(place, doors, record), cards(place, doors, record), states(place, doors), metrics(place), is_alone(place), goodbye(place, doors, service)
             asks("Traceback" not in place.log("north"), place.log("north"))
             doors.ends(), record.ends()
         finally:

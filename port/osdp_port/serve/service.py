@@ -9,6 +9,7 @@ from .events import Events
 from .figures import Figures
 from .line import Line
 from .messages import Rejected, written
+from .metrics import COUNTERS, Metrics
 from .orders import Orders
 from .outbox import Outbox
 from .settings import first_line
@@ -20,7 +21,7 @@ BACK = 5000  # so many milliseconds a broker may take to hand the presence back
 class Service:
     """A line's service. `port` is its port, `program` is `osdp panel`, and `ledger` has what is stored."""
 
-    def __init__(self, settings, port, program, devices, kept, ledger, clock, say):
+    def __init__(self, settings, port, program, devices, kept, ledger, clock, say, metrics=None):
         self.settings, self.ledger, self.clock, self.say = settings, ledger, clock, say
         self.devices = devices
         self.names = {device.name: name for name, device in zip(settings.devices, devices)}
@@ -37,6 +38,7 @@ class Service:
         will = (self.topics.of_line("presence"), written(**self.presence(False)))
         self.broker = Broker(settings, ledger.owner, will, self.subscriptions(), clock, say, self)
         self.broker.pulse = lambda: (self.topics.of_line("pulse"), written(pulse=pulses.told()))
+        self.metrics = Metrics(metrics, settings.line, clock, say, self.rows)
         port.taps.append(self.figures)
         self.line = self.orders.line = Line(port, program, devices, clock, say, kept, self)
 
@@ -228,6 +230,18 @@ class Service:
             self.broker.publishes(self.topics.of_line("figures"), written(line=self.settings.line, seconds=seconds, devices=named))
             self.tells_presence(refreshes=True)
 
+    def rows(self):
+        """What the metrics have."""
+        for field, name, text in COUNTERS:
+            yield name, "counter", text, [(self.names[each], getattr(of, field)) for each, of in self.figures.totals.items()]
+        online = [(name, int(entry.session == "open")) for name, entry in self.by_name.items()]
+        yield "osdp_online", "gauge", "Whether the session of the device is open.", online
+        waiting = [(self.names[entry.name], len(of.waiting)) for entry, of in self.orders.by_entry.items()]
+        yield "osdp_orders_waiting", "gauge", "Orders of the device that wait.", waiting
+        yield "osdp_broker_up", "gauge", "Whether the broker answers.", [(None, int(self.broker.is_answering()))]
+        left = len(self.outbox.waiting) + len(self.outbox.sent)
+        yield "osdp_outbox", "gauge", "Outcomes and events that the broker hasn't got.", [(None, left)]
+
     # turns
 
     def turn(self, read, stood_still, now, is_ready):
@@ -248,6 +262,7 @@ class Service:
         self.tells_presence()
         self.tells_figures()
         self.looks_back()
+        self.metrics.looks()
         if self.has_claimed and self.broker.is_answering():
             self.outbox.goes_out()
         self.broker.writes()
