@@ -172,7 +172,7 @@ class Building:
         self.words, self.work, self.random = words, work, random.Random(words.seed)
         self.faults, self.keys, self.wrong, self.shown = [], {}, {}, 0
         self.events, self.rejected, self.did = defaultdict(dict), Counter(), Counter()
-        self.full_until, self.is_at_end = {}, False
+        self.full_until, self.online, self.is_at_end = {}, {}, False
         self.twice = self.marked_count = self.thrown = self.told = 0
         self.latest = -10 ** 9  # how late a relay moved after its time, at most, in milliseconds
         self.port = self.free_port()
@@ -271,11 +271,11 @@ class Building:
 
     # the sender
 
-    def orders(self):
+    def orders(self, line, device, seconds):
         """A new key."""
-        number = len(self.keys)
-        key = Key(number, self.random.choice(LINES), self.random.randrange(DEVICES), self.random.randint(5, 15), moment())
+        key = Key(len(self.keys), line, device, seconds, moment())
         self.keys[key.key] = key
+        return key
 
     def sends(self, key):
         """Sends a key's message once more, or asks for the outcome where its time is over."""
@@ -305,10 +305,10 @@ class Building:
         else:
             self.client.publishes(topic, {**fields, "command": "move 9; rm -rf /\n"}, 20)
 
-    def cards(self):
+    def cards(self, line, device):
         """A card that no other is like."""
         self.shown += 1
-        self.says(self.random.choice(LINES), "card", self.random.randrange(DEVICES), f"{self.shown:08X}")
+        self.says(line, "card", device, f"{self.shown:08X}")
 
     # what comes
 
@@ -322,6 +322,8 @@ class Building:
             self.hears_outcome(message)
         elif rest[-1] == "event":
             self.hears_event(line, message)
+        elif rest[-1] == "presence":
+            self.online[line] = sum(each["online"] for each in message.get("devices", {}).values())
         elif rest[-1] == "rejected":
             self.rejected[message["why"].split(" of the events")[0][:40]] += 1
             key = self.keys.get(message.get("key"))
@@ -358,15 +360,17 @@ class Building:
     def goes(self):
         """Orders and cards, while all fails, and until each has its end. Whether all came to its end."""
         words = self.words
-        next_order = next_card = next_wrong = next_fault = next_gap = moment() + 6000
+        self.asks(self.waits(lambda: all(self.online.get(line) == DEVICES for line in LINES), SETTLES), "the devices don't come online")
+        next_order = next_card = next_wrong = next_gap = moment()
+        next_fault = moment() + 2000
         while len(self.keys) < words.orders or self.shown < words.cards:
             now = moment()
             self.looks()
             if now >= next_order and len(self.keys) < words.orders:
-                self.orders()
+                self.orders(self.random.choice(LINES), self.random.randrange(DEVICES), self.random.randint(5, 15))
                 next_order = now + self.random.randint(0, 2 * words.pause)
             if now >= next_card and self.shown < words.cards:
-                self.cards()
+                self.cards(self.random.choice(LINES), self.random.randrange(DEVICES))
                 next_card = now + self.random.randint(0, 2 * words.pause)
             if now >= next_wrong:
                 self.sends_wrong()
@@ -382,8 +386,31 @@ class Building:
             time.sleep(0.01)
         return self.comes_to_end()
 
+    def waits(self, until, seconds):
+        """Waits until something holds, while nothing fails. Whether it does."""
+        end = time.monotonic() + seconds
+        while not until() and time.monotonic() < end:
+            self.looks()
+            for key in [key for key in self.keys.values() if key.is_to_be_sent(moment())]:
+                self.sends(key)
+            time.sleep(0.02)
+        return until()
+
+    def goes_on_well(self):
+        """Once nothing fails any more each device does an order, and tells a card."""
+        last = [self.orders(line, device, 50) for line in LINES for device in range(DEVICES)]
+        for line in LINES:
+            for device in range(DEVICES):
+                self.cards(line, device)
+        self.asks(self.waits(lambda: all(each.is_over() for each in last), SETTLES), "orders at the end have no outcome")
+        for key in last:
+            said = [message["outcome"] for message in key.outcomes.values()]
+            self.asks(said == ["settled"], f"{key.key} at the end is {said}")
+
     def comes_to_end(self):
         self.heals()
+        self.asks(self.waits(lambda: all(self.online.get(line) == DEVICES for line in LINES), SETTLES), "the devices don't come back")
+        self.goes_on_well()
         self.is_at_end, next_gap, quiet = True, 0, moment()
         end = time.monotonic() + SETTLES + self.words.longest + 40
         count = 0

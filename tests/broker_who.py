@@ -222,7 +222,7 @@ def metrics(place):
     asks(waits(lambda: re.search(r"^osdp_packets_total\{line=\"north\",device=\"door-2\"\} [1-9]\d+$", path.read_text(), re.M), 30), "no packets are counted")
 
 
-def is_alone(place):
+def is_alone(place, doors, service):
     """A second store doesn't get the line while it is served."""
     place.configures("second", "osdp-north")
     other = place.work / "other.port"
@@ -235,8 +235,25 @@ def is_alone(place):
     asks(ended(second) == 3 and "is served by another store" in place.log("second"), f"a second store serves the line: {place.log('second')}")
     third = place.serves("north")
     asks(ended(third) == 3 and "another program has the store" in place.log("north"), "a second service has the store")
+    asks(waits(lambda: doors.heard("/presence")[-1]["online"] is True), "the end of a second service is told as that of the first")
+    asks(service.poll() is None, "the first service ends")
     line.kill()
     line.wait()
+
+
+def comes_after(place, doors):
+    """A line whose service has left no will is taken once no pulse has come for a while, and one that is taken is left by the one that had it."""
+    owner = "0123456789abcdef"
+    with_rights = User(place.port, place.work, "osdp-north")
+    with_rights.publishes("presence", {"online": True, "line": "north", "owner": owner, "devices": {}}, retain=True)
+    waits(lambda: doors.heard("/presence", owner=owner))
+    service, began = place.serves("north"), time.monotonic()
+    asks(not waits(lambda: doors.heard("/presence")[-1]["owner"] != owner, 15), "a line is taken at once that another store serves")
+    asks(waits(lambda: doors.heard("/presence")[-1]["owner"] != owner and doors.heard("/presence")[-1]["devices"]["door-1"]["online"], 25), f"a line that nobody serves is not taken: {place.log('north')}")
+    asks(time.monotonic() > began + 19, "it is taken too early")
+    with_rights.publishes("pulse", {"owner": owner, "pulse": "0:1"})
+    asks(ended(service) == 3 and f"is served by another store: {owner}" in place.log("north"), "a service goes on whose line another one has")
+    with_rights.ends()
 
 
 def goodbye(place, doors, service):
@@ -268,7 +285,8 @@ def main():
             service = place.serves("north", env={**os.environ, "NOTIFY_SOCKET": str(work / "notify")})
             asks(manager.recv(99) == b"READY=1" and manager.recv(99) == b"WATCHDOG=1", "systemd isn't told that it is ready")
             doors, record = User(place.port, work, "doors"), User(place.port, work, "record")
-            orders(place, doors, record), cards(place, doors, record), states(place, doors), metrics(place), is_alone(place), goodbye(place, doors, service)
+            orders(place, doors, record), cards(place, doors, record), states(place, doors), metrics(place), is_alone(place, doors, service)
+            goodbye(place, doors, service), comes_after(place, doors)
             asks("Traceback" not in place.log("north"), place.log("north"))
             doors.ends(), record.ends()
         finally:
