@@ -50,8 +50,8 @@ abbrev pub PanelFits : PanelUse → PanelState → Type 0
 PanelFits (Calls call) p = Unit {0}
 PanelFits (MadeAnew config entries) p = NoneRefused (addresses_of entries) (new_bus (panel_config config))
 
--- Which calls of a line in use it is: the calls of its bus that it is. A burst that a tick gives and that is withheld, since the last moment of its order has passed, was said, and is lost on the line: nobody
--- reads it.
+-- Which calls of a line in use it is: the calls of its bus that it is. A burst that a tick gives and that is withheld, since the last moment of its order has passed, was said,
+-- and is lost on the line: nobody reads it.
 abbrev pub calls_of_panel : {H : Type 0} → PanelUse → PanelState → List (Call H)
 calls_of_panel (Calls call) p = map OfPanel (bus_calls call p)
 calls_of_panel (MadeAnew config entries) p = NewPanel (panel_config config) (addresses_of entries) ∷ []

@@ -56,11 +56,12 @@ pub fn panel_calls_are_calls<H: Handler>()
     stands_on_calls::<H>();
 }
 
-/// Whatever programs in C call, losses of power among it, is a list of calls of a line in use, which leads to the same bus and devices. Each call of a
-/// handle is the calls that `panel_calls` and `device_calls` name. What is promised of them then is law `c_programs_hold_once` of `osdp_programs_ledger`.
+/// Whatever programs in C call, losses of power among it, is a list of calls of a line in use, which leads to the same bus and devices. A panel's handle holds an
+/// `osdp_panel::Panel`: each of its calls is the calls of this panel that `calls_for_c` names, at most one, and so calls of its bus. Each call of a device's handle is those that
+/// `device_calls` names. What is promised of them then is law `c_programs_hold_once` of `osdp_programs_ledger`.
 /// An event that is too old lapses where it was ever offered, and else it is taken back. A panel whose handle is freed, made and given its devices, each call
 /// done, is one made anew, whether it is made with room for each command or for so many bytes of them: a POLL stands between any two orders of a device. A device
-/// that is added in use is one of the bus; where memory ends the panel stays as it is.
+/// that is added in use is one of the panel; where memory ends the panel stays as it is.
 pub fn calls_for_c_are_calls()
     ensures added { AddsInUse }
     ensures anew { MakesAnew }
@@ -70,7 +71,8 @@ pub fn calls_for_c_are_calls()
 }
 
 /// What a run of lines to `osdp panel` and to `osdp reader`, leaves is what the calls leave that these lines say. The panel that `osdp panel` runs by any words is
-/// one that is made anew, where a POLL stands between any two orders of a device. And whatever such a panel and its devices are called by lines, power losses among it, is a list of calls of a line in use, which brings the bus and
+/// one that is made anew, where a POLL stands between any two orders of a device. It holds an `osdp_panel::Panel`: each line is calls of this panel, the one that it says, and the taking
+/// of each report that waits then. And whatever such a panel and its devices are called by lines, power losses among it, is a list of calls of a line in use, which brings the bus and
 /// the devices to the same. An event that leaves by a line lapses where it is in doubt, and else it is taken back. What is promised of them then is
 /// law `line_programs_hold_once` of `osdp_programs_ledger`.
 pub fn lines_are_calls()
@@ -84,15 +86,15 @@ pub fn lines_are_calls()
 }
 
 /// The laws of programs leave out nearly none of the calls for C and of the lines. Of calls for C they speak of each, also of one that makes a device
-/// anew as another model. Of lines to a panel they speak of each, but of a run anew with entries that can't be added;
-/// two at different addresses can. Of lines to a device they speak of each, also of one by which a key leaves that is in doubt, and of one by which a
+/// anew as another model, but of one that makes a panel anew with entries that can't be added. Of lines to a panel they speak of each, but of such a run anew;
+/// two at different addresses can be added. Of lines to a device they speak of each, also of one by which a key leaves that is in doubt, and of one by which a
 /// key leaves that was never offered.
 pub fn laws_speak_of_programs<H: Handler>()
     ensures c { CallsForCFit H }
     ensures lines { LinesFit H }
 {}
 
-/// A panel in C or by lines may stand on a line with any devices: what it calls are calls of the panel, which do to its bus what they do.
+/// A panel in C or by lines may stand on a line with any devices: what it calls are calls of the panel that it holds, which do to its bus what they do.
 pub fn panels_stand_beside_any_devices<H: Handler>()
     ensures c { PanelCallsAreCalls H }
     ensures lines { PanelLinesAreCalls H }

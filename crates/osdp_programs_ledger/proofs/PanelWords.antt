@@ -1,5 +1,13 @@
 -- What a panel answers and tells of orders, as steps of the ledger.
-use Rattle.osdp_programs_ledger.proofs.Common.{[], ap, append-nil, Bool, false, if◌then◌else◌, List, None, Option, refl, Some, subst, sym, true, ℕ, ◌++◌, ◌==◌, ◌∙◌, ◌∷◌, ◌≡◌, Command, changed_unless, submit_refusal_at, Answer, Call, OfPanel, Step, InUse, BusState, device_of, Entry}
+use Rattle.std.proofs.Common.{◌≡◌, ◌∙◌, ap, sym, refl, append-nil, ℕ, Bool, true, false, List, [], ◌∷◌, ◌++◌, Option, Some, None}
+use Rattle.std.specs.Prelude.{if◌then◌else◌, ◌==◌}
+use Rattle.osdp_msg.specs.declared.command.Command.{Command}
+use Rattle.osdp_bus.specs.declared.entry.Entry.{Entry}
+use Rattle.osdp_bus.specs.Buses.{BusState, device_of}
+use Rattle.osdp_bus.specs.Machine.{changed_unless, submit_refusal_at}
+use Rattle.osdp_reader.specs.declared.handler.Answer.{Answer}
+use Rattle.osdp_calls.specs.Calls.{Call, OfPanel, Step}
+use Rattle.osdp_calls.specs.Lines.{InUse}
 use Rattle.std.specs.Prelude.{not, ◌&&◌, is_some, slice_get, Result, Ok, Err}
 use Rattle.osdp_bus.specs.declared.fault.BusFault.{BusFault}
 use Rattle.osdp_bus.specs.Buses.{has_report}
@@ -20,6 +28,15 @@ use Rattle.osdp_ledger.specs.Ledger.{Ledger}
 use Rattle.osdp_link_ledger.specs.Steps.{order_at, withdraws as withdrawn_step}
 use Rattle.osdp_calls_ledger.specs.Steps.{given_back}
 use Rattle.osdp_programs_ledger.specs.PanelWords.{AcceptedOrdersAreSteps, ExpiredOrdersAreSteps, IsWithdrawn, shown}
+
+-- what a report says, in place of another one
+abbrev first_of : Option PanelReport → ℕ
+first_of None = 0
+first_of (Some x) = x.entry
+
+abbrev what_of : PanelReport → Option PanelReport → What
+what_of r None = r.what
+what_of r (Some x) = x.what
 
 module _ {H : Type 0} (answer_of : H → Command → Answer) (after : H → Command → H) where
   abbrev submitted : Command → Ledger → List ledger.Step
@@ -68,7 +85,7 @@ module _ {H : Type 0} (answer_of : H → Command → Answer) (after : H → Comm
       by_gone entry late none (Err fault) gone is = absurd (let e = is in cc)
       by_gone entry late none (Ok (Some c)) gone is =
           let place : entry ≡ r.entry = ap (λ (o : Option PanelReport). first_of o) is in
-          let says : Expired c ≡ Expired command = ap (λ (o : Option PanelReport). what_of o) is ∙ what in
+          let says : Expired c ≡ Expired command = ap (λ (o : Option PanelReport). what_of r o) is ∙ what in
           let cmd : c ≡ command = cc in
           let report : has_report p.bus ≡ false = ap (λ o. is_some o) none in
           let calls : panel.bus_calls panel.NextReport p ≡ Rattle.osdp_bus_laws.specs.Calls.Withdraw entry ∷ [] =
@@ -76,24 +93,16 @@ module _ {H : Type 0} (answer_of : H → Command → Answer) (after : H → Comm
           record {
             step =
                 ap (λ list. Rattle.osdp_calls_ledger.specs.Steps.steps_along answer_of after k (Rattle.std.specs.Prelude.map {A = Call H} {B = Step H} (λ c. record { call = c; places = [] }) (Rattle.std.specs.Prelude.map OfPanel list)) l g) calls
-                    ∙ append-nil (if entry == k then withdrawn_step (given_back (withdrawal_at entry l.bus)) g else [])
-                    ∙ ap (λ (b : BusState). if entry == k then withdrawn_step (given_back (withdrawal_at entry b)) g else []) same
-                    ∙ ap (λ x. if entry == k then withdrawn_step (given_back x) g else []) gone
-                    ∙ ap (λ (x : Command). if entry == k then ledger.Withdraw (order_at g.ahead x) ∷ [] else []) cmd
-                    ∙ ap (λ (e : ℕ). if e == k then ledger.Withdraw (order_at g.ahead command) ∷ [] else []) place;
+                ∙ append-nil (if entry == k then withdrawn_step (given_back (withdrawal_at entry l.bus)) g else [])
+                ∙ ap (λ (b : BusState). if entry == k then withdrawn_step (given_back (withdrawal_at entry b)) g else []) same
+                ∙ ap (λ x. if entry == k then withdrawn_step (given_back x) g else []) gone
+                ∙ ap (λ (x : Command). if entry == k then ledger.Withdraw (order_at g.ahead x) ∷ [] else []) cmd
+                ∙ ap (λ (e : ℕ). if e == k then ledger.Withdraw (order_at g.ahead command) ∷ [] else []) place;
             none = λ d at.
                 let device : device_of entry p.bus ≡ Some d = ap (λ e. device_of e p.bus) place ∙ at in
                 let back : withdrawn_of d ≡ Some c = (let e : Ok (withdrawn_of d) ≡ Ok (Some c) = sym (ap withdrawal_of device) ∙ gone in cc) in
                 none_out d c back;
           }
-        where
-          first_of : Option PanelReport → ℕ
-          first_of None = 0
-          first_of (Some x) = x.entry
-
-          what_of : Option PanelReport → What
-          what_of None = r.what
-          what_of (Some x) = x.what
 
       by_late : (o : Option ℕ) → late_at p.bus.greatest p ≡ o → p.bus.devices.report ≡ None → expired_at o p ≡ Some r → IsWithdrawn answer_of after k r command p l g
       by_late None late none is = absurd (let e = is in cc)
