@@ -69,11 +69,17 @@ int clock_gettime(clockid_t clock, struct timespec *now)
 }
 
 #pragma GCC diagnostic ignored "-Wmaybe-uninitialized" /* the header says that poll reads nothing of its ends */
+int ppoll(struct pollfd *ends, nfds_t count, const struct timespec *wait, const sigset_t *blocked)
+{
+    struct timespec most = {wait == NULL ? 0 : wait->tv_sec, wait == NULL ? 0 : wait->tv_nsec};
+    stops(count > 0 && (ends[0].events & POLLOUT) != 0 ? PORT : WAIT); /* before a write the port is waited for */
+    return (int)syscall(SYS_ppoll, ends, count, wait == NULL ? NULL : &most, blocked, 8);
+}
+
 int poll(struct pollfd *ends, nfds_t count, int wait)
 {
     struct timespec most = {wait / 1000, wait % 1000 * 1000000};
-    stops(count > 0 && (ends[0].events & POLLOUT) != 0 ? PORT : WAIT); /* before a write the port is waited for */
-    return (int)syscall(SYS_ppoll, ends, count, wait < 0 ? NULL : &most, NULL, 0);
+    return ppoll(ends, count, wait < 0 ? NULL : &most, NULL);
 }
 
 int select(int count, fd_set *restrict reads, fd_set *restrict writes, fd_set *restrict fails, struct timeval *restrict wait)
