@@ -240,9 +240,10 @@ class Line:
     # the verdict
 
     def writes(self):
-        """Of each packet of an order: its text, the last moment before its write, and that of the write."""
+        """Of each packet of an order: its text, the last moment before its write, and that of the write. That a program which speaks lines took the first one anew is asked of each packet."""
         for line in self.log.read_text().splitlines():
-            taken, wrote, digits = line.split()
+            taken, wrote, is_new, digits = line.split()
+            asks(is_new == "1" or not self.kind.has_child, f"{self.name}: a packet goes out by the moment of before the tick")
             burst = bytes.fromhex(digits).lstrip(b"\xFF")
             if len(burst) > 9 and burst[5] == OUT:
                 yield f"OUT {burst[6]}:{burst[7]}:{int.from_bytes(burst[8:10], 'little')}", int(taken), int(wrote)
