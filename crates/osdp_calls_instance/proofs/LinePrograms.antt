@@ -275,7 +275,7 @@ stays_fresh (Some fault) address next p is = is
 
 nothing_taken : (p : PanelState) → IsFresh p → panel_lines.takes_all p ≡ []
 nothing_taken p is =
-    let none : (if has_report p.bus then 1 else 0) ≡ 0 = ap (λ (o : Option (ℕ × Report)). if is_some o then 1 else 0) is.none in
+    let none : ◌≡◌ {A = ℕ} (if has_report p.bus then 1 else 0) 0 = ap {B = ℕ} (λ (o : Option (ℕ × Report)). if is_some o then 1 else 0) is.none in
     let empty = is.empty in
     let most : panel.most_reports p ≡ 0 = omega (arith, none, empty) in
     ap (λ n. panel_lines.takes_some n p) most
