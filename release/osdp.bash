@@ -28,12 +28,12 @@ _osdp_port() {
     case $each in monitor | show | panel | reader | find | test | trace | page | serve) command=${command:-$each} ;; esac
   done
   case $before in
-    --keep | --config | --trace | --osdp) COMPREPLY=($(compgen -f -- "$word")); return ;;
+    --keep | --config | --metrics | --trace | --osdp) COMPREPLY=($(compgen -f -- "$word")); return ;;
     --address | --every | --until | --late | --size | --may | --set-address | --set-rate | --listen | --alone) COMPREPLY=(); return ;;
   esac
   if [[ $word == -* ]]; then
     case $command in
-      '') each='--all --address --every --live --json --keep --new --config --check --until --late --trace --size --osdpcap --may --go-on --sum --tap --set-address --set-rate --demo --listen --alone --plain --osdp --help --version' ;;
+      '') each='--all --address --every --live --json --keep --new --config --metrics --check --until --late --trace --size --osdpcap --may --go-on --sum --tap --set-address --set-rate --demo --listen --alone --plain --osdp --help --version' ;;
       monitor) each='--all --address --every --live --json --plain --osdp' ;;
       show) each='--all --address --plain --osdp' ;;
       panel) each='--all --keep --new --until --trace --size --osdpcap --plain --osdp' ;;
@@ -42,7 +42,7 @@ _osdp_port() {
       test) each='--trace --may --go-on --sum --tap --plain --osdp' ;;
       trace) each='--size --osdpcap --plain --osdp' ;;
       page) each='--trace --demo --listen --alone --plain --osdp' ;;
-      serve) each='--new --config --check --plain --osdp' ;;
+      serve) each='--new --config --metrics --check --plain --osdp' ;;
     esac
     COMPREPLY=($(compgen -W "$each" -- "$word"))
   elif [[ $before == test ]]; then

@@ -33,6 +33,7 @@ FORM = jsonschema.Draft202012Validator(json.loads((TOP / "docs/broker.schema.jso
 # a fault by which it is found that a rule is left out
 FOUND = {"dedupe": "moved [0-9]+ times$", "expiry": "after its time$", "store": "moved [0-9]+ times$|has several outcomes"}
 LINES, DEVICES = ("north", "south"), 3
+OLDEST = 30  # from which age on a card is late, in seconds
 DEVICE_LATE = 1000  # so late our devices may act, in milliseconds
 KINDS = ("kills broker", "stops broker", "kills service", "ends service", "stops service", "kills line", "stops line", "restarts", "pulls", "fills")
 SETTLES = 60.0  # so many seconds all has to come to its end once nothing fails any more
@@ -171,7 +172,9 @@ class Building:
         self.words, self.work, self.random = words, work, random.Random(words.seed)
         self.faults, self.keys, self.wrong, self.shown = [], {}, {}, 0
         self.events, self.rejected, self.did = defaultdict(dict), Counter(), Counter()
-        self.marked, self.asked_at = set(), {}
+        self.full_until, self.online, self.is_at_end = {}, {}, False
+        self.twice = self.marked_count = self.thrown = self.told = 0
+        self.latest = -10 ** 9  # how late a relay moved after its time, at most, in milliseconds
         self.port = self.free_port()
         (work / "broker.conf").write_text(f"listener {self.port} 127.0.0.1\nallow_anonymous true\npersistence true\npersistence_location {work}/\nautosave_interval 1\n"
                                           "max_queued_messages 100000\n")
@@ -197,7 +200,7 @@ class Building:
         folder.mkdir()
         names = "\n".join(f"door-{at + 1} = {5 + at}" for at in range(DEVICES))
         (work / f"{name}.toml").write_text(f"version = 1\nline = \"{name}\"\nport = \"{work}/{name}.port\"\nstore = \"{folder}/store\"\n[devices]\n{names}\n[broker]\nport = {self.port}\n"
-                                           f"[events]\noldest = 30\n")
+                                           f"[events]\noldest = {OLDEST}\n")
         script = TOP / "tests/broker_wrong.py" if self.words.wrong else TOP / "port/osdp-port"
         program = ["/usr/bin/python3", "-B", script, *([self.words.wrong] if self.words.wrong else []), "--osdp", self.words.osdp, "--config", work / f"{name}.toml", "serve"]
         subprocess.run([str(word) for word in [*program, "--new"]], check=True, stdout=subprocess.DEVNULL)
@@ -249,8 +252,6 @@ class Building:
             (self.work / f"{line}.full").touch()
             self.full_until[line] = moment() + pause
 
-    full_until = {}
-
     def looks(self):
         for each in self.all_programs():
             each.looks()
@@ -270,11 +271,11 @@ class Building:
 
     # the sender
 
-    def orders(self):
+    def orders(self, line, device, seconds):
         """A new key."""
-        number = len(self.keys)
-        key = Key(number, self.random.choice(LINES), self.random.randrange(DEVICES), self.random.randint(5, 15), moment())
+        key = Key(len(self.keys), line, device, seconds, moment())
         self.keys[key.key] = key
+        return key
 
     def sends(self, key):
         """Sends a key's message once more, or asks for the outcome where its time is over."""
@@ -304,10 +305,10 @@ class Building:
         else:
             self.client.publishes(topic, {**fields, "command": "move 9; rm -rf /\n"}, 20)
 
-    def cards(self):
+    def cards(self, line, device):
         """A card that no other is like."""
         self.shown += 1
-        self.says(self.random.choice(LINES), "card", self.random.randrange(DEVICES), f"{self.shown:08X}")
+        self.says(line, "card", device, f"{self.shown:08X}")
 
     # what comes
 
@@ -321,6 +322,8 @@ class Building:
             self.hears_outcome(message)
         elif rest[-1] == "event":
             self.hears_event(line, message)
+        elif rest[-1] == "presence":
+            self.online[line] = sum(each["online"] for each in message.get("devices", {}).values())
         elif rest[-1] == "rejected":
             self.rejected[message["why"].split(" of the events")[0][:40]] += 1
             key = self.keys.get(message.get("key"))
@@ -337,6 +340,7 @@ class Building:
     def hears_event(self, line, message):
         place, number = (line, message["address"]), message["number"]
         shape = {name: value for name, value in message.items() if name not in ("late", "age")}
+        self.asks(message["late"] or message["age"] <= OLDEST, f"an old card is told as new: {message}")
         before = self.events[place].setdefault(number, shape)
         if before != shape:
             self.faults.append(f"the event {place} {number} has two forms: {before} and {shape}")
@@ -351,22 +355,22 @@ class Building:
                 if first <= last or self.is_at_end:
                     self.client.publishes(f"osdp/{line}/door-{device + 1}/ask", {"events": {"from": first, "to": min(max(last, first) + 20, first + 900)}})
 
-    is_at_end = False
-
     # the day
 
     def goes(self):
         """Orders and cards, while all fails, and until each has its end. Whether all came to its end."""
         words = self.words
-        next_order = next_card = next_wrong = next_fault = next_gap = moment() + 6000
+        self.asks(self.waits(lambda: all(self.online.get(line) == DEVICES for line in LINES), SETTLES), "the devices don't come online")
+        next_order = next_card = next_wrong = next_gap = moment()
+        next_fault = moment() + 2000
         while len(self.keys) < words.orders or self.shown < words.cards:
             now = moment()
             self.looks()
             if now >= next_order and len(self.keys) < words.orders:
-                self.orders()
+                self.orders(self.random.choice(LINES), self.random.randrange(DEVICES), self.random.randint(5, 15))
                 next_order = now + self.random.randint(0, 2 * words.pause)
             if now >= next_card and self.shown < words.cards:
-                self.cards()
+                self.cards(self.random.choice(LINES), self.random.randrange(DEVICES))
                 next_card = now + self.random.randint(0, 2 * words.pause)
             if now >= next_wrong:
                 self.sends_wrong()
@@ -382,8 +386,31 @@ class Building:
             time.sleep(0.01)
         return self.comes_to_end()
 
+    def waits(self, until, seconds):
+        """Waits until something holds, while nothing fails. Whether it does."""
+        end = time.monotonic() + seconds
+        while not until() and time.monotonic() < end:
+            self.looks()
+            for key in [key for key in self.keys.values() if key.is_to_be_sent(moment())]:
+                self.sends(key)
+            time.sleep(0.02)
+        return until()
+
+    def goes_on_well(self):
+        """Once nothing fails any more each device does an order, and tells a card."""
+        last = [self.orders(line, device, 50) for line in LINES for device in range(DEVICES)]
+        for line in LINES:
+            for device in range(DEVICES):
+                self.cards(line, device)
+        self.asks(self.waits(lambda: all(each.is_over() for each in last), SETTLES), "orders at the end have no outcome")
+        for key in last:
+            said = [message["outcome"] for message in key.outcomes.values()]
+            self.asks(said == ["settled"], f"{key.key} at the end is {said}")
+
     def comes_to_end(self):
         self.heals()
+        self.asks(self.waits(lambda: all(self.online.get(line) == DEVICES for line in LINES), SETTLES), "the devices don't come back")
+        self.goes_on_well()
         self.is_at_end, next_gap, quiet = True, 0, moment()
         end = time.monotonic() + SETTLES + self.words.longest + 40
         count = 0
@@ -442,6 +469,7 @@ class Building:
         self.asks(len(key.outcomes) <= 1, f"{key.key} has several outcomes: {list(key.outcomes.values())}")
         self.asks(key.is_over(), f"{key.key} has no outcome")
         self.asks(acted <= 1, f"the relay of {key.key} moved {acted} times")
+        self.latest = max(self.latest, self.latest if at is None else at - key.time)
         self.asks(at is None or at <= key.time + DEVICE_LATE, f"the relay of {key.key} moved {(at or 0) - key.time} ms after its time")
         for message in key.outcomes.values():
             least, most = {"settled": (1, 1), "in doubt": (0, 1)}.get(message["outcome"], (0, 0))
@@ -476,8 +504,6 @@ class Building:
                 came.append(message["card"])
             seen.add(message["card"])
         self.judges_runs(line, address, came, seen)
-
-    twice = marked_count = thrown = told = 0
 
     def judges_runs(self, line, address, came, seen):
         """Cards come in their order. Of each run of a device all come, but the last ones of one that lost power."""
@@ -523,6 +549,7 @@ def tells(building, words, seconds):
           + ", ".join(f"{name} {count}" for name, count in outcomes.most_common()))
     print(f"{building.told} cards came, {building.thrown} were thrown away by {building.did['restarts']} restarts of devices and {building.did['kills line']} of lines, "
           f"{building.marked_count} marked, {building.twice} twice; rejected {dict(building.rejected)}")
+    print(f"the last relay moved {-building.latest} ms before its time was over")
     print("failed: " + ", ".join(f"{name} {count}" for name, count in sorted(building.did.items())))
     if words.wrong:
         found = [fault for fault in building.faults if re.search(FOUND[words.wrong], fault)]

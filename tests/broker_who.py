@@ -4,6 +4,7 @@ A wrong password and a wrong certificate are told; who may not order moves nothi
 hashed; an outcome and events are had by asking; systemd is told; SIGTERM says goodbye, and forgets what waits. Prints each fault."""
 import json
 import os
+import re
 import socket
 import ssl
 import subprocess
@@ -121,7 +122,7 @@ class Place:
         asks(done.returncode == 0, f"no store is made: {done.stderr}")
 
     def serves(self, name, **more):
-        return self.starts(self.words(name), name, **more)
+        return self.starts([*self.words(name), "--metrics", self.work / f"{name}.prom"], name, **more)
 
     def says(self, text):
         self.line.stdin.write(f"{text}\n".encode())
@@ -211,7 +212,17 @@ def states(place, doors):
     doors.publishes("door-3/wanted", None, retain=True)
 
 
-def is_alone(place):
+def metrics(place):
+    """Each metric has its help and its kind, and the counts of each device grow."""
+    path = place.work / "north.prom"
+    text = path.read_text() if path.exists() else ""
+    names = re.findall(r"^# TYPE (\w+) (?:counter|gauge)$", text, re.M)
+    asks(len(names) == 7 and all(f"# HELP {name} " in text for name in names), f"metrics: {text}")
+    asks(all(re.match(r"# |\w+\{line=\"north\"(,device=\"door-[123]\")?\} \d+$", line) for line in text.splitlines()), f"metrics that are none: {text}")
+    asks(waits(lambda: re.search(r"^osdp_packets_total\{line=\"north\",device=\"door-2\"\} [1-9]\d+$", path.read_text(), re.M), 30), "no packets are counted")
+
+
+def is_alone(place, doors, service):
     """A second store doesn't get the line while it is served."""
     place.configures("second", "osdp-north")
     other = place.work / "other.port"
@@ -224,8 +235,25 @@ def is_alone(place):
     asks(ended(second) == 3 and "is served by another store" in place.log("second"), f"a second store serves the line: {place.log('second')}")
     third = place.serves("north")
     asks(ended(third) == 3 and "another program has the store" in place.log("north"), "a second service has the store")
+    asks(waits(lambda: doors.heard("/presence")[-1]["online"] is True), "the end of a second service is told as that of the first")
+    asks(service.poll() is None, "the first service ends")
     line.kill()
     line.wait()
+
+
+def comes_after(place, doors):
+    """A line whose service has left no will is taken once no pulse has come for a while, and one that is taken is left by the one that had it."""
+    owner = "0123456789abcdef"
+    with_rights = User(place.port, place.work, "osdp-north")
+    with_rights.publishes("presence", {"online": True, "line": "north", "owner": owner, "devices": {}}, retain=True)
+    waits(lambda: doors.heard("/presence", owner=owner))
+    service, began = place.serves("north"), time.monotonic()
+    asks(not waits(lambda: doors.heard("/presence")[-1]["owner"] != owner, 15), "a line is taken at once that another store serves")
+    asks(waits(lambda: doors.heard("/presence")[-1]["owner"] != owner and doors.heard("/presence")[-1]["devices"]["door-1"]["online"], 25), f"a line that nobody serves is not taken: {place.log('north')}")
+    asks(time.monotonic() > began + 19, "it is taken too early")
+    with_rights.publishes("pulse", {"owner": owner, "pulse": "0:1"})
+    asks(ended(service) == 3 and f"is served by another store: {owner}" in place.log("north"), "a service goes on whose line another one has")
+    with_rights.ends()
 
 
 def goodbye(place, doors, service):
@@ -257,7 +285,8 @@ def main():
             service = place.serves("north", env={**os.environ, "NOTIFY_SOCKET": str(work / "notify")})
             asks(manager.recv(99) == b"READY=1" and manager.recv(99) == b"WATCHDOG=1", "systemd isn't told that it is ready")
             doors, record = User(place.port, work, "doors"), User(place.port, work, "record")
-            orders(place, doors, record), cards(place, doors, record), states(place, doors), is_alone(place), goodbye(place, doors, service)
+            orders(place, doors, record), cards(place, doors, record), states(place, doors), metrics(place), is_alone(place, doors, service)
+            goodbye(place, doors, service), comes_after(place, doors)
             asks("Traceback" not in place.log("north"), place.log("north"))
             doors.ends(), record.ends()
         finally:

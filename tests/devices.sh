@@ -6,8 +6,10 @@ set -u
 program=$(cd "$(dirname "$1")" && pwd)/$(basename "$1")
 cd "$(dirname "$0")/.." || exit 1
 failed=0
+timeout 600 python3 -B tests/devices_strange.py "$program" &
+strange=$!
 timeout 600 python3 -B tests/devices.py "$program" || failed=1
-timeout 600 python3 -B tests/devices_strange.py "$program" || failed=1
+wait "$strange" || failed=1
 diff <(sed -n '/^```text$/,/^```$/p' docs/TESTING_DEVICES.md | sed '1d;$d') <(python3 -B tests/devices.py --report "$program" ForgetsAtAWrongNumber) || { echo 'docs/TESTING_DEVICES.md: another report'; failed=1; }
 timeout 200 /usr/bin/python3 -B tests/devices_line.py "$program" || failed=1
 exit "$failed"

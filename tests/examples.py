@@ -24,7 +24,7 @@ TOP = Path(__file__).resolve().parent.parent
 PANEL = "poll-interval 20 reply-wait 1000 sends 2 quiet-wait 60 gap 300 check sum".split()
 READER = "vendor 53494D model 1 gap 300".split()
 LIMIT = 60.0
-ID, POLL, COMSET = 0x61, 0x60, 0x6E
+ID, POLL, OUT, COMSET = 0x61, 0x60, 0x68, 0x6E
 ACK, NAK, PDID, COM = 0x40, 0x41, 0x45, 0x54
 IDENTITY = bytes.fromhex("53494D010101000000010000")
 faults = []
@@ -128,7 +128,12 @@ def stale_orders(words):
         asks(taken(reader) == [], f"stale: the reader has taken {taken(reader)}")
         panel.say("1 OUT 0:2:1")
         asks(line.run(has(panel, "settled 1 OUT 0:2:1 = ACK")), "stale: an order of an open session isn't done")
-        line.loses = lambda way, burst: True
+        has_begun = []  # from the first of these orders on all is lost; a POLL may go out before it
+
+        def loses(way, burst):
+            has_begun.extend([True] if way == "out" and burst[5] == OUT else [])
+            return bool(has_begun)
+        line.loses = loses
         for number in (2, 3, 4):
             panel.say(f"1 OUT 0:2:{number}")
         told = ["lost 1 no-reply OUT 0:2:2", "withdrawn 1 OUT 0:2:3", "withdrawn 1 OUT 0:2:4"]

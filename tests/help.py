@@ -27,8 +27,9 @@ PARTS = {"show": [("OPTIONS, OPTIONS OF SHOW", "usage")], "monitor": [("OPTIONS"
          "plan": [("SETTINGS", "usage"), ("FIGURES", "Times")],
          "test": [("OPTIONS", "usage"), ("INPUT", "Input"), ("INPUT OF A PANEL", "Input of a panel"), ("SCRIPTS", "Input of a script")]}
 # a text for each command of `help panel` and each event of `help reader`, after the calls that hand it over
-HANDED = {"panel": ("Commands", "add 5 0\nsubmit 1 never ", ["ID 0", "CAP 0", "LSTAT", "ISTAT", "OSTAT", "RSTAT", "OUT 0:5:30", "LED 0:0:0:0:0:0:0:0:1:1:0:2:0", "BUZ 0 2 1 1 1",
-                                                     "TEXT 0 1 0 1 1 48454C4C4F", "COMSET 7 9600", "MFG 53494D 00"]),
+HANDED = {"panel": ("Commands", "add 5 0\nsubmit 1 never ",
+                    ["ID 0", "CAP 0", "LSTAT", "ISTAT", "OSTAT", "RSTAT", "OUT 0:5:30", "LED 0:0:0:0:0:0:0:0:1:1:0:2:0", "BUZ 0 2 1 1 1",
+                     "TEXT 0 1 0 1 1 48454C4C4F", "COMSET 7 9600", "MFG 53494D 00"]),
           "reader": ("Events", "event ", ["KEYPAD 0 31", "RAW 0 0 26 00112240", "FMT 0 0 3132", "ISTATR 0100", "OSTATR 01", "RSTATR 00", "LSTATR 0 1"])}
 # a POLL, and the answer to an ID with a check of one byte, as the examples of docs/PROTOCOL.md have them
 PACKETS = (bytes.fromhex("53000700006046"), bytes.fromhex("53851300004553494D010101000000010000E3"))

@@ -25,7 +25,7 @@ TOP = Path(__file__).resolve().parent.parent
 ADDRESSES = (5, 6, 7)
 ORDERS = EVENTS = 200
 SILENCE = 2.0
-WITHIN = 55.0
+WITHIN = 250.0  # seconds after which it hangs: a busy machine loses sessions
 TIMES = "check crc reply-wait 100 poll-interval 10 busy-wait 20 quiet-wait 150 gap 15 capacity 256"
 
 # OUTs, each record as output, control and time, and which outputs are on after each, by the table of controls in docs/PROTOCOL.md. The times are a minute,

@@ -184,7 +184,7 @@ def losses(tab):
     tab.clicks("#tab-line")
     tab.waits("[...document.querySelectorAll('#counts tbody tr')].every((row) => Number(row.children[3].textContent) > 1)", what="repeats are counted")
     told = tab.waits("/loses/.test(document.querySelector('#diagnoses').innerText) && /no answer in time/.test(document.querySelector('#told').innerText) && document.querySelector('#panel-line').innerText", what="losses are told")
-    asks(re.search(r"^device [56] loses \d+% of answers$", told, re.M) and "A session with the device began." in told, f"what is told of losses: {told!r}")
+    asks(re.search(r"^device [56] loses \d+% of answers(, others none)?$", told, re.M) and "A session with the device began." in told, f"what is told of losses: {told!r}")
     picture(tab, "line")
 
 

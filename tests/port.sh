@@ -6,15 +6,27 @@ program=$(cd "$(dirname "$1")" && pwd)/$(basename "$1")
 cd "$(dirname "$0")/.." || exit 1
 /usr/bin/python3 -c 'import serial' || { echo 'pyserial is missing: apt-get install python3-serial'; exit 1; }
 failed=0
-timeout 60 /usr/bin/python3 -B tests/port_parts.py || failed=1
-timeout 60 /usr/bin/python3 -B tests/port_pieces.py || failed=1
-timeout 60 /usr/bin/python3 -B tests/port_machines.py || failed=1
-timeout 400 /usr/bin/python3 -B tests/port_places.py "$program" || failed=1
-timeout 300 /usr/bin/python3 -B tests/port_faults.py "$program" || failed=1
-timeout 300 /usr/bin/python3 -B tests/port_files.py "$program" || failed=1
-timeout 100 /usr/bin/python3 -B tests/port_stopped.py "$program" || failed=1
-timeout 500 /usr/bin/python3 -B tests/port_walk.py "$program" || failed=1
-timeout 200 /usr/bin/python3 -B tests/port_noise.py "$program" || failed=1
-timeout 200 /usr/bin/python3 -B tests/short_examples.py "$program" || failed=1
-timeout 200 /usr/bin/python3 -B tests/stood_still.py "$program" || failed=1
+
+# $1: after so many seconds it has failed; the rest: a script of tests/ and its words
+tries() {
+  timeout "$1" /usr/bin/python3 -B "tests/$2" "${@:3}" || failed=1
+}
+
+# they wait for most of the time, so two run side by side
+(
+  tries 60 port_parts.py
+  tries 60 port_pieces.py
+  tries 60 port_machines.py
+  tries 400 port_places.py "$program"
+  tries 300 port_faults.py "$program"
+  tries 300 port_files.py "$program"
+  exit "$failed"
+) &
+beside=$!
+tries 500 port_walk.py "$program"
+tries 200 port_noise.py "$program"
+tries 200 short_examples.py "$program"
+tries 200 stood_still.py "$program"
+wait "$beside" || failed=1
+tries 100 port_stopped.py "$program"
 exit "$failed"

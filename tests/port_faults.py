@@ -294,7 +294,10 @@ def hangs_up():
             os.write(line.reader_ends[1].end, packet(5, 0, ID, b"\0") + packet(0x85, 0, PDID, IDENTITY) + packet(5, 1, POLL) + packet(0x85, 1, ACK))
             line.rests(0.6)
             monitor.process.send_signal(signal.SIGHUP)
-            line.rests(0.5)
+            if ignores:
+                line.rests(0.5)
+            else:
+                line.run(lambda: monitor.process.poll() is not None)
             asks((monitor.process.poll() is None) == ignores, f"hangs up: the monitor, {ignores}: {monitor.process.poll()}")
             status = line.stops(monitor) if ignores else line.stops(monitor, 0)
             asks(status == 0 and tells(monitor, "device  asked")(), f"hangs up: the monitor: {status}, {monitor.lines}")

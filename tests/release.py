@@ -17,7 +17,7 @@ from pathlib import Path
 TOP = Path(__file__).resolve().parent.parent
 PROGRAM = sys.argv[1]
 OF_PORT = {"monitor": "all address every live json", "show": "all address", "panel": "all keep new until trace size osdpcap", "reader": "all keep new late trace size osdpcap",
-           "find": "set-address set-rate", "test": "trace may go-on sum tap", "trace": "size osdpcap", "page": "trace demo listen alone", "serve": "new config check"}  # the options of each command, as the manual has them
+           "find": "set-address set-rate", "test": "trace may go-on sum tap", "trace": "size osdpcap", "page": "trace demo listen alone", "serve": "new config metrics check"}  # the options of each command, as the manual has them
 COMMANDS = ("show", "monitor", "check", "make", "sim", "panel", "reader", "plan", "test", "help")
 faults = []
 

@@ -154,10 +154,10 @@ def until(script, holds, seconds=30):
     return holds()
 
 
-def asked(terminal, address, number, code, data=b""):
-    """The code of the reply to a packet; none where none comes."""
+def asked(terminal, address, number, code, data=b"", seconds=30):
+    """The code of the reply to a packet; none where none comes in time."""
     os.write(terminal.end, packet(address, number, code, data))
-    return terminal.next_burst()[5:6] if port_line.select.select([terminal.end], [], [], 2)[0] else b""
+    return terminal.next_burst()[5:6] if port_line.select.select([terminal.end], [], [], seconds)[0] else b""
 
 
 def kept_place(reader_words):
@@ -186,7 +186,7 @@ def kept_place(reader_words):
         asks(asked(terminal, 7, 0, ID, b"\0") == bytes([PDID]), "kept: the reader that starts again isn't where it was")
         terminal.note_rate()
         asks(terminal.rate == termios.B19200, "kept: the reader that starts again has another rate")
-        asks(not asked(terminal, 5, 0, ID, b"\0"), "kept: the reader is at its first address too")
+        asks(not asked(terminal, 5, 0, ID, b"\0", seconds=2), "kept: the reader is at its first address too")
         again.process.kill()
         again.process.wait()
         for text, why in (("", "has 0 bytes, and is no store"), ("7 19200\n", "is no store of osdp"), (None, "there is no store at")):
@@ -212,7 +212,7 @@ def refused_rate(reader_words):
         terminal, kept, streams = Terminal(), Path(folder) / "place", {"env": {**os.environ, "PYTHONPATH": folder}}
         reader = Script(*example, "--keep", kept, "--new", terminal.path, 9600, *program, "address", 5, **streams)
         asks(asked(terminal, 5, 0, ID, b"\0") == bytes([PDID]), "refused rate: ID isn't answered")
-        asks(not asked(terminal, 5, 1, COMSET, bytes([7]) + (19200).to_bytes(4, "little")), "refused rate: the COMSET is answered")
+        asks(not asked(terminal, 5, 1, COMSET, bytes([7]) + (19200).to_bytes(4, "little"), seconds=2), "refused rate: the COMSET is answered")
         asks(until(reader, has(reader, "no rate 19200")) and stores.text(kept) == "", f"refused rate: {stores.text(kept)}, {reader.lines}")
         asks(asked(terminal, 5, 2, 0x60) == bytes([NAK]), "refused rate: the session hasn't ended")
         asks(asked(terminal, 5, 0, ID, b"\0") == bytes([PDID]), "refused rate: the reader isn't where it was")

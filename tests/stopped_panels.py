@@ -8,9 +8,10 @@ so is the `osdp panel` beside it, for 3 to 20 seconds where N orders are asked f
 seven, with `osdp reader` at its end. Orders are typed just before it is stopped and while it is, and cards are read.
 
 An order may go out for LASTS milliseconds after it was typed, and that of a card for as long after its reader was asked. The device's record has when each was acted on. That may be
-later by w: the time from the write of a packet to the answer. What this test read late counts as come as early as it may have. Where the panel was stopped after it had taken the last moment and before its write, no program can help it: such orders are
-counted apart, by what `stops.c` writes down of each write. A stop before the clock or in the wait is never such a one. Each order that was taken has one end; one that expired was never
-acted on, and one that was settled was, once. One panel has orders that never grow too old: it does act late, so the run can fail."""
+later by w: the time from the write of a packet to the answer. What this test read late counts as come as early as it may have. Where the panel was stopped between the last moment
+that it took and its write, no program can help it: such orders are counted apart, by what `stops.c` writes down of each write, and so are those of a busy computer. A stop before the
+clock or in the wait is never such a one. Each order that was taken has one end; one that expired was never acted on, and one that was settled was, once. One panel has orders that
+never grow too old: it does act late, so the run can fail."""
 import argparse
 import mmap
 import os
@@ -32,6 +33,7 @@ from terminals import Numbered, Terminal
 TOP = Path(__file__).resolve().parent.parent
 LASTS = 1500  # for how many milliseconds an order may go out
 W = 60  # milliseconds from the write of a packet to the answer, on a terminal
+BUSY = 1000  # for so many milliseconds a busy computer may hold a program up between its moment and its write
 LOSS = 1 / 7
 SETTINGS = "poll-interval 20 reply-wait 150 sends 3 quiet-wait 100 gap 20".split()
 CALLS = {"wait": 1, "clock": 2, "read": 3, "pipe": 4, "port": 5}  # as `stops.c` has them
@@ -145,7 +147,7 @@ class Line:
         self.script = Numbered(*kind.before, self.terminal.path, 9600, *kind.after, env={**os.environ, **more}, stderr=subprocess.DEVNULL)
         self.typed, self.cards, self.events = {}, 0, []  # when each order was typed; cards that were read; and when each was told, with its line
         self.stops, self.seen = [], 0  # of each stop: where it was, since when, until when
-        self.stopped, self.armed, self.lag = None, None, 0.0
+        self.stopped, self.armed, self.lag, self.looked = None, None, 0.0, moment()
         self.plans(moment() + 2000)
 
     # what is to come
@@ -206,22 +208,24 @@ class Line:
             self.stopped, self.stops[-1][2] = None, moment()
             self.plans(now + self.chance.uniform(1500, 3000))
 
-    def turn(self, is_busy, lag):
-        """What has come is answered, and what is due is done. This test was late by `lag` milliseconds."""
-        self.lag = max(self.lag, lag)
+    def turn(self, is_busy):
+        """What has come since the last look is answered, and what is due is done."""
+        before, self.looked = self.looked, moment()
+        self.lag = max(self.lag, self.looked - before)
         if select.select([self.terminal.end], [], [], 0)[0]:
             for burst in self.terminal.bursts():
                 if self.chance.random() < LOSS:
                     continue
-                for answer in self.device.hears(burst, moment(), lag):
+                now = moment()
+                for answer in self.device.hears(burst, now, now - before):
                     if self.chance.random() >= LOSS:
                         os.write(self.terminal.end, answer)
         self.script.read()
+        now = moment()
         for line in self.script.lines[self.seen:]:
             if line.startswith(("event", "maybe-again")):
-                self.events.append((moment(), lag, line))
+                self.events.append((now, now - before, line))
         self.seen = len(self.script.lines)
-        now = moment()
         if is_busy or self.stopped or self.armed:
             self.looks(now)
         if is_busy:
@@ -236,9 +240,10 @@ class Line:
     # the verdict
 
     def writes(self):
-        """Of each packet of an order: its text, the last moment before its write, and that of the write."""
+        """Of each packet of an order: its text, the last moment before its write, and that of the write. That a program which speaks lines took the first one anew is asked of each packet."""
         for line in self.log.read_text().splitlines():
-            taken, wrote, digits = line.split()
+            taken, wrote, is_new, digits = line.split()
+            asks(is_new == "1" or not self.kind.has_child, f"{self.name}: a packet goes out by the moment of before the tick")
             burst = bytes.fromhex(digits).lstrip(b"\xFF")
             if len(burst) > 9 and burst[5] == OUT:
                 yield f"OUT {burst[6]}:{burst[7]}:{int.from_bytes(burst[8:10], 'little')}", int(taken), int(wrote)
@@ -247,7 +252,7 @@ class Line:
         """The last moment of an order that went out at a moment, by when it was typed; and that of the strike, by the card that was offered last before. None where no order was given."""
         if self.kind.prefix:
             return self.typed[text] + LASTS if text in self.typed else None
-        before = [offered for offered in self.device.offered if offered <= at]
+        before = [offered for offered in self.device.offered if offered < at + 1]  # the panel's moments are whole milliseconds
         return before[-1] + LASTS if before and text == STRIKE else None
 
     def judge(self):
@@ -278,9 +283,12 @@ class Line:
             count["too late, as asked for"] += 1
             return
         where = {where for where, since, until in self.stops if since <= wrote + 1 and until >= taken - 1}
+        if not where and W < wrote - taken < BUSY:
+            count["apart, a busy computer"] += 1
+            return
         # a program with a library may look at its clock once more before the write
         asks(where and not where & ({"clock", "wait"} if self.kind.has_child else {"wait"}), f"{self.name}: {text} is acted on {late:.0f} ms after its last moment, {wrote - taken} ms after the moment of its write; stopped at {where or 'no call'}")
-        count["apart"] += 1
+        count["apart, stopped before the write"] += 1
 
     def judge_ends(self, count):
         """Each order that was taken has one end, as the device knows it."""
@@ -314,13 +322,11 @@ class Line:
 
 def runs(lines, is_enough):
     """All lines go on until it is enough, and then until each order has its end."""
-    before, end = moment(), None
+    end = None
     while end is None or moment() < end:
         select.select([line.terminal.end for line in lines], [], [], 0.002)
-        now = moment()
-        lag, before = now - before, now
         for line in lines:
-            line.turn(end is None, lag)
+            line.turn(end is None)
         if (end is None and is_enough()) or (end and any(line.stopped for line in lines)):
             end = moment() + 6000
 
@@ -348,7 +354,7 @@ def main():
             told, of_kind = line.judge(), counts[line.kind.name]
             latest = max(told.pop("latest", 0), of_kind.pop("latest", 0))
             of_kind.update(told)
-            of_kind["latest"] = latest
+            of_kind["latest"] = latest  # the greatest, and no sum
         tells(found, counts, max(line.lag for line in lines), given.seed)
     print(f"stopped panels: {len(faults)} faults in {time.monotonic() - begun:.1f} s", *faults[:40], sep="\n")
     return 1 if faults else 0
@@ -358,7 +364,8 @@ def tells(found, counts, lag, seed):
     """What was tried, and that it was enough."""
     for kind in found:
         count = counts[kind.name]
-        print(f"{kind.name}, seed {seed}: {', '.join(f'{count[what]} {what}' for what in sorted(count))}")
+        latest = count.pop("latest")
+        print(f"{kind.name}, seed {seed}: {', '.join(f'{count[what]} {what}' for what in sorted(count))}; at the latest {latest} ms after its last moment")
         asks(count["acted on"] and count["stops"], f"{kind.name}: too little has happened: {dict(count)}")
         if kind.prefix and not kind.is_endless and kind.name != "panel in C":
             asks(count["expired"] and count["settled"], f"{kind.name}: too little has happened: {dict(count)}")

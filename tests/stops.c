@@ -1,5 +1,6 @@
 /* Preloaded into a panel's program, stops it by SIGSTOP before a call that the test names, and writes down each packet that goes to its port: the last moment of the program before,
- * the moment of the write, both in milliseconds, and its bytes. The last moment is the one that it told `osdp panel` in its last line `at`, or else the one that it took last. STOPS_CONTROL names a file of three numbers of 32 bits: before which call it is
+ * the moment of the write, both in milliseconds, whether it told the first one since its last line `tick`, and its bytes. The last moment is the one that it told `osdp panel` in its last
+ * line `at`, or else the one that it took last. STOPS_CONTROL names a file of three numbers of 32 bits: before which call it is
  * to stop, 0 for none; how many of these go by before; and how often it has stopped. STOPS_LOG names what is written. Programs that it starts aren't stopped. */
 #define _GNU_SOURCE
 #include <errno.h>
@@ -22,6 +23,7 @@ static int log_end = -1;
 static uint64_t taken;            /* the moment that was taken last */
 static uint64_t told;             /* that of the last line `at`, by the program's own clock */
 static uint64_t begun = UINT64_MAX; /* when that clock began: no line is written sooner than it says */
+static int is_new;                /* whether that line came after the last line `tick` */
 
 static uint64_t moment(void)
 {
@@ -69,11 +71,17 @@ int clock_gettime(clockid_t clock, struct timespec *now)
 }
 
 #pragma GCC diagnostic ignored "-Wmaybe-uninitialized" /* the header says that poll reads nothing of its ends */
+int ppoll(struct pollfd *ends, nfds_t count, const struct timespec *wait, const sigset_t *blocked)
+{
+    struct timespec most = {wait == NULL ? 0 : wait->tv_sec, wait == NULL ? 0 : wait->tv_nsec};
+    stops(count > 0 && (ends[0].events & POLLOUT) != 0 ? PORT : WAIT); /* before a write the port is waited for */
+    return (int)syscall(SYS_ppoll, ends, count, wait == NULL ? NULL : &most, blocked, 8);
+}
+
 int poll(struct pollfd *ends, nfds_t count, int wait)
 {
     struct timespec most = {wait / 1000, wait % 1000 * 1000000};
-    stops(count > 0 && (ends[0].events & POLLOUT) != 0 ? PORT : WAIT); /* before a write the port is waited for */
-    return (int)syscall(SYS_ppoll, ends, count, wait < 0 ? NULL : &most, NULL, 0);
+    return ppoll(ends, count, wait < 0 ? NULL : &most, NULL);
 }
 
 int select(int count, fd_set *restrict reads, fd_set *restrict writes, fd_set *restrict fails, struct timeval *restrict wait)
@@ -94,16 +102,18 @@ static void notes(const unsigned char *bytes, size_t count)
 {
     char line[3000];
     unsigned long long last = begun == UINT64_MAX ? taken : begun + told, now = moment();
-    int at = snprintf(line, sizeof line, "%llu %llu ", last, now);
+    int at = snprintf(line, sizeof line, "%llu %llu %d ", last, now, is_new);
     for (size_t each = 0; each < count && at < (int)sizeof line - 4; each++) at += snprintf(line + at, 3, "%02X", bytes[each]);
     line[at++] = '\n';
     (void)!syscall(SYS_write, log_end, line, (size_t)at);
 }
 
-/* Takes the moment of a line `at`. */
+/* Takes the moment of a line `at`, and notes a line `tick`. */
 static void hears(const char *line, size_t count)
 {
+    if (count == 5 && line[0] == 't' && line[1] == 'i') is_new = 0;
     if (count < 4 || line[0] != 'a' || line[1] != 't' || line[2] != ' ') return;
+    is_new = 1;
     told = 0;
     for (size_t each = 3; each < count && line[each] >= '0' && line[each] <= '9'; each++) told = 10 * told + (uint64_t)(line[each] - '0');
     uint64_t now = moment();

@@ -10,6 +10,9 @@ export OSDP_C_LIB_DIR=$PWD/crates/osdp_c/out
 examples/c/build "$work" -Werror || exit 1
 cargo build --quiet --offline --locked --examples --manifest-path rust/Cargo.toml --target-dir "$work/target" || exit 1
 passes python3 -c "import runpy; from pathlib import Path; runpy.run_path('install')['compiled'](Path('$work'))" || exit 1
-OSDP_LIBRARY=$work/libosdp.so.0 python3 tests/stored.py 3 "$work/target/debug/examples/stored_panel" Rust || failed=1
-OSDP_LIBRARY=$work/libosdp.so.0 python3 -B tests/store.py "$work" "$work/target/debug/examples" "$program" "${@:2}" || failed=1
+export OSDP_LIBRARY=$work/libosdp.so.0
+python3 tests/stored.py 3 "$work/target/debug/examples/stored_panel" Rust &
+stored=$!
+python3 -B tests/store.py "$work" "$work/target/debug/examples" "$program" "${@:2}" || failed=1
+wait "$stored" || failed=1
 exit "$failed"

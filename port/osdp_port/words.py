@@ -106,6 +106,13 @@ OPTIONS = (
         "with --keep: makes that store, where there is none; of serve: the same, and ends",
     ),
     Option("--config", "FILE", ("serve",), "of serve: the configuration, in TOML", is_file=True),
+    Option(
+        "--metrics",
+        "FILE",
+        ("serve",),
+        "of serve: what the line is like, for Prometheus, each 15 s",
+        is_file=True,
+    ),
     Option("--check", None, ("serve",), "of serve: says what is wrong with the configuration, and ends"),
     Option(
         "--until",

@@ -159,8 +159,11 @@ fn the_last_moment_counts() {
     assert!(matches!(&line.told[..], [told] if matches!(told.report, Report::Settled(..))));
     line.told.clear();
     let now = line.now;
-    line.submit(now - 1);
+    let submitted = line.panel.submit_text(line.door, "LSTAT", at(now - 1));
+    assert_eq!(submitted, Ok(1));
     assert_eq!(line.panel.next_deadline(), Some(at(now - 1))); // at once: it is late already
+    let unsent = line.panel.tick(at(now)).unwrap();
+    assert!(!unsent.is_one() && unsent.write(at(now)).unwrap().is_empty());
     line.run(now + 100);
     let Some(told) = line.told.pop() else {
         panic!("nothing is told");

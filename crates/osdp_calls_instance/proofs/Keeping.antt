@@ -1,5 +1,5 @@
 -- The premises hold of both lists of calls, and the rule of the one with two entries: by the tests of each call, and since its values are in their ranges.
-use Rattle.std.proofs.Common.{[], ◌∷◌, refl, arith}
+use Rattle.std.proofs.Common.{[], ◌∷◌, ◌<◌, ℕ, refl, arith}
 use Rattle.osdp_frame.specs.Held.{decided}
 use Rattle.osdp_frame.specs.Items.{items, left_over}
 use Rattle.osdp_msg.specs.CommandTable.{command_at, command_fault, command_of}

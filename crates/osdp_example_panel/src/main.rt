@@ -32,8 +32,7 @@ fn may_enter(card: &Raw<'_>) -> bool {
 
 /// A panel with its door, which is asked for its cards between two orders. None where there is no memory.
 fn new_panel(alloc: Global, room: Room) -> Option<Panel> {
-    let config = BusConfig::new(CheckKind::Crc, room);
-    let mut panel = Panel::new(alloc, config).ok()?;
+    let mut panel = Panel::new(alloc, BusConfig::new(CheckKind::Crc, room)).ok()?;
     panel.add(Address::new(FIRST.address)?, 0).ok()?;
     Some(panel)
 }
@@ -84,8 +83,7 @@ fn turn(
     bytes: &[u8],
     now: u64,
 ) -> io::Result<()> {
-    let mut turn = Turn::new();
-    let mut kept = KeptPanelReport::new();
+    let (mut turn, mut kept) = (Turn::new(), KeptPanelReport::new());
     door.begin(rt, panel, now)?;
     panel.hear(bytes, now);
     for _ in 0..MOST_REPORTS {
@@ -96,21 +94,19 @@ fn turn(
             heed(rt, panel, door, &told, now)?;
         }
     }
-    let Some(unsent) = panel.tick(now, &mut turn) else {
-        return Ok(());
-    };
-    // a line has one moment, so the burst is written at that of its turn
-    let burst = panel.write(unsent, now, &turn);
-    // to a door whose session is let end nothing is said: there is no call for it
-    if burst.is_empty() || door.is_left {
-        return Ok(());
+    if let Some(unsent) = panel.tick(now, &mut turn) {
+        // a line has one moment, so the burst is written at that of its turn
+        let burst = panel.write(unsent, now, &turn);
+        // to a door whose session is let end nothing is said: there is no call for it
+        if !burst.is_empty() && !door.is_left {
+            send(rt, burst)?;
+        }
     }
-    send(rt, burst)
+    Ok(())
 }
 
 fn main(rt: HostRuntime) -> io::Result<()> {
-    let room = Room::of(16);
-    let mut panel = new_panel(rt.alloc(), room).ok_or(io::ErrorKind::OutOfMemory)?;
+    let mut panel = new_panel(rt.alloc(), Room::of(16)).ok_or(io::ErrorKind::OutOfMemory)?;
     let mut door = Door::new();
     for line in rt.lines(rt.alloc()) {
         let line = line?;

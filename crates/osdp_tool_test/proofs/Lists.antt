@@ -16,9 +16,9 @@ use Rattle.osdp_rules.specs.declared.known.Known.{Known}
 use Rattle.osdp_rules.specs.declared.known.Known.TheVariants.{Unknown}
 use Rattle.osdp_rules.specs.declared.verdict.Verdict.{Verdict}
 use Rattle.osdp_rules.specs.declared.verdict.Verdict.TheVariants as verdict
-use Rattle.osdp_tool_test.specs.Entries.{by_ground, new_entry}
+use Rattle.osdp_tool_test.specs.Entries.{by_ground, new_entry, with_finding}
 use Rattle.osdp_tool_test.specs.Lists.{AllName, EndElsewhere, IsJudged, IsScenario, JudgesByTheList, after_lines, all_places, line_places, named, places_in, places_of, verdict_by, why_skipped}
-use Rattle.osdp_tool_test.specs.Tests.{entries_with}
+use Rattle.osdp_tool_test.specs.Tests.{broken_entry, entries_with, timed_entry}
 use Rattle.osdp_tool_test.specs.Seen.{Seen, answers, first_two, in_a_row, is_answered, seen, seen_of, sent}
 use Rattle.osdp_tool_test.specs.declared.rules.Ground.{Ground}
 use Rattle.osdp_tool_test.specs.declared.rules.Ground.TheVariants.{Asked, Habit, Open}
@@ -427,12 +427,12 @@ module _ (rules : List Rule) (address : ℕ) where
       subst (λ (o : Option Rule). Knows rules address (past ++ []) (left_out x o t)) (sym (found_so x.number n rule t past k name is))
       (changed_knows x.number rule (λ e. record e { skipped = x.why }) t past k)
   line_knows (times m) t past (n, rule, name, is) k =
-      subst (λ (o : Option Rule). Knows rules address (past ++ []) (after_times m o t)) (sym (found_so m n rule t past k name is)) (changed_knows m rule _ t past k)
+      subst (λ (o : Option Rule). Knows rules address (past ++ []) (after_times m o t)) (sym (found_so m n rule t past k name is)) (changed_knows m rule (timed_entry t.form t.run) t past k)
   line_knows (keeps m) t past (n, rule, name, is) k =
-      subst (λ (o : Option Rule). Knows rules address (past ++ []) (after_keeps m o t)) (sym (found_so m n rule t past k name is)) (changed_knows m rule _ t past k)
+      subst (λ (o : Option Rule). Knows rules address (past ++ []) (after_keeps m o t)) (sym (found_so m n rule t past k name is)) (changed_knows m rule (with_finding finding.Kept) t past k)
   line_knows (breaks x) t past (n, rule, name, is) k =
       subst (λ (o : Option Rule). Knows rules address (past ++ []) (after_breaks x o t)) (sym (found_so x.number n rule t past k name is))
-      (changed_knows x.number rule _ t past k)
+      (changed_knows x.number rule (broken_entry t.form x.why) t past k)
 
   line_reads : (line : Line) (t : DeviceTest) (past : List Sent) (of : IsOfRule line) → Knows rules address past t → Reads of.0 (after_said (Some line) t)
   line_reads (device a) t past (n, rule, name, is) k = absurd (let none = name in cc)

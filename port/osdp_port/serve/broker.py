@@ -5,6 +5,7 @@ A connection is begun by a thread of its own, since the line can't wait for it. 
 what the broker didn't confirm is published anew."""
 import os
 import threading
+from typing import NamedTuple
 
 from paho.mqtt import client as mqtt
 from paho.mqtt.packettypes import PacketTypes
@@ -25,6 +26,18 @@ MOST = 50  # messages that are read in a turn
 IN_FLIGHT = 20  # messages that the broker hasn't confirmed, at most, as brokers allow that
 
 
+class Subscription(NamedTuple):
+    """A topic that is heard; whether what is retained there is wanted; and what of it waits: nothing with a QoS of 0."""
+
+    topic: str
+    keeps: bool
+    qos: int = 1
+
+    def options(self):
+        keeps = 0 if self.keeps else 2
+        return SubscribeOptions(qos=self.qos, noLocal=self.qos == 0, retainAsPublished=True, retainHandling=keeps)
+
+
 class Dropped(Exception):
     """What lay in the socket is too old: the connection ends, and nothing of it is acknowledged."""
 
@@ -43,7 +56,7 @@ class Broker:
     def __init__(self, settings, owner, will, subscriptions, clock, say, hears):
         self.settings, self.clock, self.say, self.hears = settings, clock, say, hears
         self.name, self.will, self.subscriptions = f"osdp-{settings.line}-{owner}", will, subscriptions
-        self.pulse = None  # gives the topic and the payload of a pulse
+        self.pulse = None  # gives the topic and the payload of a pulse, and whether it is retained
         self.client = self.attempt = None
         self.is_open = False
         self.fresh = self.pulsed = self.tries_at = 0
@@ -128,9 +141,7 @@ class Broker:
         if code.value >= 128:
             self.drops(f"it refuses the service: {code}")
             return
-        options = [(topic, SubscribeOptions(qos=1, retainAsPublished=True, retainHandling=0 if keeps else 2))
-                   for topic, keeps in self.subscriptions]
-        client.subscribe(options)
+        client.subscribe([(each.topic, each.options()) for each in self.subscriptions])
         self.is_open, self.again, self.told_why = True, PULSE, None
         self.say(f"broker {self.settings.broker_host}:{self.settings.broker_port}")
         self.sends_pulse()
@@ -182,8 +193,8 @@ class Broker:
     def sends_pulse(self):
         """A message of the service to itself: what comes after its confirmation was sent after this moment."""
         self.pulsed = self.clock()
-        topic, payload = self.pulse()
-        info = self.client.publish(topic, payload, qos=1, retain=True)
+        topic, payload, is_retained = self.pulse()
+        info = self.client.publish(topic, payload, qos=1, retain=is_retained)
         self.pulses[info.mid] = self.pulsed
 
     def on_publish(self, _, __, mid):

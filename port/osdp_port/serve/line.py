@@ -68,8 +68,12 @@ class Line(Panel):
     # turns
 
     def goes_round(self, now):
-        super().goes_round(now)
+        if self.hears.may_begin():
+            super().goes_round(now)
         self.hears.gives_orders(now)
+
+    def next_moment(self):
+        return super().next_moment() if self.hears.may_begin() else self.due
 
     def writes(self):
         self.has_packet = True

@@ -78,6 +78,8 @@ class Orders:
     def wants(self, entry, texts):
         """A device is to have these states."""
         device = self.by_entry[entry]
+        if device.wanted == texts:
+            return  # the broker tells what it retains at each connection
         device.wanted = texts
         device.own = deque(order for order in device.own if order.text == STATE)
         device.own.extend(Waiting(text) for text in texts)

@@ -4,23 +4,26 @@ import os
 from ..cards import shown as shown_card
 from ..faults import FAILED, Stop, shown
 from . import messages, pulses
-from .broker import Broker
+from .broker import Broker, Subscription
 from .events import Events
 from .figures import Figures
 from .line import Line
 from .messages import Rejected, written
+from .metrics import COUNTERS, Metrics
 from .orders import Orders
 from .outbox import Outbox
 from .settings import first_line
 from .topics import Topics
 
 BACK = 5000  # so many milliseconds a broker may take to hand the presence back
+FIRST = 10000  # .. and to answer at first, until the line is run without it
+STALE = 20000  # another store has left a line for which no pulse comes for so long: its will comes before that
 
 
 class Service:
     """A line's service. `port` is its port, `program` is `osdp panel`, and `ledger` has what is stored."""
 
-    def __init__(self, settings, port, program, devices, kept, ledger, clock, say):
+    def __init__(self, settings, port, program, devices, kept, ledger, clock, say, metrics=None):
         self.settings, self.ledger, self.clock, self.say = settings, ledger, clock, say
         self.devices = devices
         self.names = {device.name: name for name, device in zip(settings.devices, devices)}
@@ -31,20 +34,24 @@ class Service:
         self.events = Events(ledger, settings.events_oldest, secret, lambda name, number: self.outbox.adds((name, number)))
         self.orders = Orders(devices, ledger, clock, settings.orders_longest, self.outbox.adds)
         self.figures = Figures(devices, clock)
-        self.has_claimed = self.is_claiming = False
+        self.began, self.has_begun = clock(), False
+        self.has_claimed = self.is_asked = False
+        self.other_since = None  # since when another store is said to serve the line
+        self.other = None  # the other store that does
         self.presence_at = None  # when the presence was published that hasn't come back
         self.presented = None  # the presence as it was published last
         will = (self.topics.of_line("presence"), written(**self.presence(False)))
         self.broker = Broker(settings, ledger.owner, will, self.subscriptions(), clock, say, self)
-        self.broker.pulse = lambda: (self.topics.of_line("pulse"), written(pulse=pulses.told()))
+        self.broker.pulse = self.pulse
+        self.metrics = Metrics(metrics, settings.line, clock, say, self.rows)
         port.taps.append(self.figures)
         self.line = self.orders.line = Line(port, program, devices, clock, say, kept, self)
 
     def subscriptions(self):
-        """The topics that are heard, and whether what is retained there is wanted."""
-        found = [(self.topics.of_line("presence"), True)]
+        """The topics that are heard. No pulse of a time before waits there."""
+        found = [Subscription(self.topics.of_line("presence"), True), Subscription(self.topics.of_line("pulse"), False, qos=0)]
         for name, keeps in (("order", False), ("ask", False), ("wanted", True)):
-            found += [(self.topics.of(device, name), keeps) for device in self.settings.devices]
+            found += [Subscription(self.topics.of(device, name), keeps) for device in self.settings.devices]
         return found
 
     def begins(self):
@@ -59,18 +66,17 @@ class Service:
 
     def connected(self):
         self.outbox.again()
-        self.has_claimed, self.is_claiming = False, True
         # once this is confirmed the broker has told what it retains of the presence
-        topic, payload = self.broker.pulse()
-        self.broker.publishes(topic, payload, self.claims, retain=True)
+        topic, payload, _ = self.pulse()
+        self.broker.publishes(topic, payload, self.has_answered)
 
     def disconnected(self):
-        self.has_claimed = self.is_claiming = False
-        self.presence_at = None
+        self.has_claimed = self.is_asked = False
+        self.presence_at = self.other_since = None
 
     def message(self, topic, payload, is_retained, expiry, fresh):
-        if topic == self.topics.of_line("presence"):
-            self.hears_presence(payload)
+        if topic in (self.topics.of_line("presence"), self.topics.of_line("pulse")):
+            self.hears_line(topic, payload)
             return
         name, kind = self.topics.parted(topic)
         if name is None:
@@ -118,6 +124,12 @@ class Service:
 
     # whose line it is
 
+    def pulse(self):
+        """A pulse of the line: its topic, its payload, and whether it is retained. Before the line is this service's it is
+        a question, which nobody takes for a pulse."""
+        topic = self.topics.of_line("pulse" if self.has_claimed else "question")
+        return topic, written(owner=self.ledger.owner, pulse=pulses.told()), self.has_claimed
+
     def presence(self, is_online):
         found = {"online": is_online, "line": self.settings.line, "owner": self.ledger.owner}
         if not is_online:
@@ -126,23 +138,46 @@ class Service:
                    for name, entry in self.by_name.items()}
         return {**found, "devices": devices}
 
-    def claims(self):
-        """Nobody else has the line, as far as the broker knows."""
-        self.has_claimed, self.is_claiming = True, False
-        self.presented = None
+    def has_answered(self):
+        """The broker has told all that it retains."""
+        self.is_asked = True
 
-    def hears_presence(self, payload):
+    def claims(self):
+        """Takes the line, where nobody else has it as far as the broker knows, or the one that had it gives no pulse."""
+        is_free = self.other_since is None or self.clock() > self.other_since + STALE
+        if self.is_asked and not self.has_claimed and is_free:
+            self.has_claimed, self.presented = True, None
+
+    def may_begin(self):
+        """Whether the line may be run: it was taken, or no broker answers."""
+        is_alone = not self.broker.is_open and self.clock() > self.began + FIRST
+        self.has_begun = self.has_begun or self.has_claimed or is_alone
+        return self.has_begun
+
+    def hears_line(self, topic, payload):
+        """Hears who serves the line."""
         try:
             found, _ = messages.read(payload)
         except Rejected:
             return
-        owner, is_online = found.get("owner"), found.get("online")
-        if owner == self.ledger.owner:
+        owner, is_ours = found.get("owner"), found.get("owner") == self.ledger.owner
+        if topic == self.topics.of_line("pulse"):
+            self.other = self.other if is_ours else owner
+        elif found.get("online") is not True:  # it may be a will, which is told late
+            self.presented = None
+            self.other_since = self.other_since if is_ours else None
+        elif is_ours:
             self.presence_at = None
-            if self.has_claimed and is_online is False:
-                self.presented = None  # the will of a connection of before
-        elif is_online is True:
-            raise Stop(f"the line {self.settings.line} is served by another store: {shown(str(owner))}", FAILED)
+        elif self.has_claimed:
+            self.other = owner
+        else:
+            self.other_since = self.other_since or self.clock()
+
+    def leaves(self):
+        """Another store serves the line: this service ends, and sends no will."""
+        if self.other is not None:
+            self.broker.ends()
+            raise Stop(f"the line {self.settings.line} is served by another store: {shown(str(self.other))}", FAILED)
 
     def tells_presence(self, refreshes=False):
         """Publishes the presence, where it has changed."""
@@ -228,6 +263,18 @@ class Service:
             self.broker.publishes(self.topics.of_line("figures"), written(line=self.settings.line, seconds=seconds, devices=named))
             self.tells_presence(refreshes=True)
 
+    def rows(self):
+        """What the metrics have."""
+        for field, name, text in COUNTERS:
+            yield name, "counter", text, [(self.names[each], getattr(of, field)) for each, of in self.figures.totals.items()]
+        online = [(name, int(entry.session == "open")) for name, entry in self.by_name.items()]
+        yield "osdp_online", "gauge", "Whether the session of the device is open.", online
+        waiting = [(self.names[entry.name], len(of.waiting)) for entry, of in self.orders.by_entry.items()]
+        yield "osdp_orders_waiting", "gauge", "Orders of the device that wait.", waiting
+        yield "osdp_broker_up", "gauge", "Whether the broker answers.", [(None, int(self.broker.is_answering()))]
+        left = len(self.outbox.waiting) + len(self.outbox.sent)
+        yield "osdp_outbox", "gauge", "Outcomes and events that the broker hasn't got.", [(None, left)]
+
     # turns
 
     def turn(self, read, stood_still, now, is_ready):
@@ -237,6 +284,8 @@ class Service:
             self.broker.drops(f"the service stood still for {stood_still / 1000:.1f} s")
         self.broker.looks()
         self.broker.reads(is_ready)
+        self.leaves()
+        self.claims()
         self.line.turn(read, [], now, stood_still)
         self.ledger.commit()
         self.line.goes_out()
@@ -248,6 +297,7 @@ class Service:
         self.tells_presence()
         self.tells_figures()
         self.looks_back()
+        self.metrics.looks()
         if self.has_claimed and self.broker.is_answering():
             self.outbox.goes_out()
         self.broker.writes()

@@ -73,12 +73,12 @@ def serve(words, console, osdp, moment):
     if words.get("--new"):
         return makes_store(settings, console)
     try:
-        return served(settings, console, osdp, moment)
+        return served(settings, console, osdp, moment, words.get("--metrics"))
     except StoreError as error:
         raise Stop(str(error), FAILED) from None
 
 
-def served(settings, console, osdp, moment):
+def served(settings, console, osdp, moment, metrics):
     from .service import Service
 
     kept = LinePlaces(settings.store, settings.port)
@@ -89,7 +89,7 @@ def served(settings, console, osdp, moment):
     if why:
         raise StoreError(why)
     program = Lines(osdp, ["panel", *SETTINGS, *settings.panel])
-    service = Service(settings, port, program, devices, kept, ledger, moment, console.say)
+    service = Service(settings, port, program, devices, kept, ledger, moment, console.say, metrics)
     service.line.late = settings.late
     console.say(f"line {settings.line} at {port.path} {port.rate}: devices {', '.join(settings.devices)}")
     manager = Manager()

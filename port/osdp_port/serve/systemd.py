@@ -13,6 +13,8 @@ class Manager:
         path = environment.get("NOTIFY_SOCKET", "")
         self.address = f"\0{path[1:]}" if path.startswith("@") else path
         self.socket = socket.socket(socket.AF_UNIX, socket.SOCK_DGRAM) if path else None
+        if self.socket:
+            self.socket.setblocking(False)  # the line doesn't wait for a manager that doesn't listen
         self.told = -EACH
 
     def tells(self, text):
