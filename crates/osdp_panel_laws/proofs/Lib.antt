@@ -8,6 +8,8 @@ mod Standing
 mod FromLine
 mod Giving
 mod Outcome
+mod NeverSent
+mod Expired
 mod InTime
 mod Forever
 mod Numbers

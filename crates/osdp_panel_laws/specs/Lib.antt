@@ -6,3 +6,4 @@ pub mod InTime
 pub mod Forever
 pub mod Numbers
 pub mod Outcome
+pub mod NeverSent

@@ -8,6 +8,7 @@ ghost use Rattle.osdp_panel_laws.specs.Equal.{EqualEventsAreMarked};
 ghost use Rattle.osdp_panel_laws.specs.Forever.{ForeverIsAsItsBus};
 ghost use Rattle.osdp_panel_laws.specs.InTime.{GivesInTime};
 ghost use Rattle.osdp_panel_laws.specs.Making.{AddsAsLast, ComesOfItsSettings};
+ghost use Rattle.osdp_panel_laws.specs.NeverSent.{ExpiredNeverWentOut};
 ghost use Rattle.osdp_panel_laws.specs.Numbers.{CountsUp};
 ghost use Rattle.osdp_panel_laws.specs.Outcome.{OrdersHaveOneOutcome};
 ghost use Rattle.osdp_panel_laws.specs.Written.{OneBurstIsWritten};
@@ -75,4 +76,10 @@ pub fn numbers_count_up()
 #[tactic(auto, using(crate::proofs::Outcome::orders_have_one_outcome))]
 pub fn orders_have_one_outcome()
     ensures { OrdersHaveOneOutcome }
+{}
+
+/// An order of which `next_report` tells that it has expired never went out, in no session: after no part of the calls, before that report or after it, is the order with its
+/// number on its way.
+pub fn expired_orders_never_went_out()
+    ensures { ExpiredNeverWentOut }
 {}
