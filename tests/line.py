@@ -213,8 +213,8 @@ def accounts(panel, readers):
 
 
 def run(relay, panel, readers, begun):
-    """Hands out the plan, a step every 50 ms, and goes on until everything is told."""
-    steps, orders, silences, due = deque(plan()), 0, deque(range(len(ADDRESSES))), begun + 1.0
+    """Hands out the plan once each session has opened, a step every 50 ms, and goes on until everything is told."""
+    steps, orders, silences, due = deque(plan()), 0, deque(range(len(ADDRESSES))), None
     while True:
         scripts = {script.process.stdout.fileno(): script for script in [panel] + readers}
         ready = select.select(relay.sources() + list(scripts), [], [], 0.01)[0]
@@ -225,7 +225,9 @@ def run(relay, panel, readers, begun):
         if any(script.process.poll() is not None for script in [panel] + readers):
             faults.append("a program has ended")
             return
-        while steps and due <= now:
+        if due is None and len({line.split()[1] for line in panel.lines if line.startswith("opened ")}) == len(ADDRESSES):
+            due = now
+        while steps and due is not None and due <= now:
             for kind, reader, line in (steps.popleft(), steps.popleft()):
                 orders += kind == "order"
                 (panel if kind == "order" else readers[reader]).say(line)
