@@ -32,7 +32,7 @@ TOP = Path(__file__).resolve().parent.parent
 sys.dont_write_bytecode = True
 FORM = jsonschema.Draft202012Validator(json.loads((TOP / "docs/broker.schema.json").read_text()))
 # a fault by which it is found that a rule is left out
-FOUND = {"dedupe": "moved [0-9]+ times$", "expiry": "after its time$", "store": "moved [0-9]+ times$|has several outcomes"}
+FOUND = {"dedupe": "^the relay of .* moved [2-9] times$", "expiry": "^the relay of .* after its time$", "store": "^the relay of .* moved [2-9] times$"}
 LINES, DEVICES = ("north", "south"), 3
 AGAIN = 15.0  # for so many seconds it is looked whether a relay moves once more
 OVERLAP = 0.003  # how likely something fails at a look though something is not online yet

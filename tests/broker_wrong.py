@@ -27,6 +27,7 @@ def without_dedupe():
             self.ledger.store.write("DELETE FROM broker_keys WHERE key = ?", key)
         takes(self, entry, key, text, expiry, fresh, until)
     orders.Orders.takes = again
+    ledger.Ledger.tells_key = lambda *_: None  # an outcome of before is none of the order that came again
 
 
 def without_expiry():
