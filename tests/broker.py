@@ -1,4 +1,4 @@
-"""A broker, two lines and their services, of which nothing stays: `broker.py OSDP [--seed N] [--orders N] [--cards N] [--longest S] [--wrong RULE]`.
+"""A broker, two lines and their services, of which nothing stays: `broker.py OSDP [--seed N] [--orders N] [--cards N] [--longest S] [--wrong RULE | --rules]`.
 
 Each line has three devices of ours on a pseudo terminal (`broker_line.py`). A sender gives orders by keys and repeats each message until it has the outcome; cards are held to the
 devices. Meanwhile broker, services, lines, devices and terminals are killed, stopped for 3 to S seconds, or taken away, and disks are full, at random by the seed.
@@ -6,7 +6,8 @@ devices. Meanwhile broker, services, lines, devices and terminals are killed, st
 At the end: each key that was accepted has one outcome, and another one never moved a relay; no relay moved twice for a key, nor after its time; what was settled was done, and what
 expired, was refused or forgotten wasn't; no event is missing but the last ones of a device that lost power; only a marked one comes twice; numbers have no gap.
 
-With --wrong a rule of the service is left out (`broker_wrong.py`): then something of that has to be found. Prints the counts, and each fault; the status is 1 where there is one."""
+With --wrong a rule of the service is left out (`broker_wrong.py`), and what breaks that is tried: then that has to be found. With --rules the same is tried with all rules, and
+nothing is found. Prints the counts, and each fault; the status is 1 where there is one."""
 import argparse
 import json
 import os
@@ -31,8 +32,10 @@ TOP = Path(__file__).resolve().parent.parent
 sys.dont_write_bytecode = True
 FORM = jsonschema.Draft202012Validator(json.loads((TOP / "docs/broker.schema.json").read_text()))
 # a fault by which it is found that a rule is left out
-FOUND = {"dedupe": "moved [0-9]+ times$", "expiry": "after its time$", "store": "moved [0-9]+ times$|has several outcomes"}
+FOUND = {"dedupe": "^the relay of .* moved [2-9] times$", "expiry": "^the relay of .* after its time$", "store": "^the relay of .* moved [2-9] times$"}
 LINES, DEVICES = ("north", "south"), 3
+AGAIN = 15.0  # for so many seconds it is looked whether a relay moves once more
+OVERLAP = 0.003  # how likely something fails at a look though something is not online yet
 OLDEST = 30  # from which age on a card is late, in seconds
 DEVICE_LATE = 1000  # so late our devices may act, in milliseconds
 KINDS = ("kills broker", "stops broker", "kills service", "ends service", "stops service", "kills line", "stops line", "restarts", "pulls", "fills")
@@ -357,10 +360,56 @@ class Building:
 
     # the day
 
+    def begins(self):
+        """Waits until the devices are online."""
+        self.asks(self.waits(self.are_online, SETTLES), "the devices don't come online")
+
+    def again(self, key):
+        """Sends a key's message once more though its outcome is there."""
+        key.more, before = 1, self.acted()
+        self.waits(lambda: key.more < 1, SETTLES)
+        self.waits(lambda: self.acted() > before, AGAIN)
+
+    def acted(self):
+        """How often the relays of a line have moved."""
+        return sum(words[0] == "acted" for words in self.log("north"))
+
+    def dedupe(self):
+        """A message comes again once its order is done."""
+        key = self.orders("north", 0, 90)
+        self.waits(key.is_over, SETTLES)
+        self.again(key)
+
+    def expiry(self):
+        """A device is away for longer than its order has time."""
+        self.line["north"].stops(10 ** 6)
+        self.waits(lambda: self.online.get("north") == 0, SETTLES)
+        key = self.orders("north", 0, 12)
+        self.waits(lambda: moment() > key.time + 4 * DEVICE_LATE, SETTLES)
+        self.line["north"].goes_on()
+        self.waits(lambda: self.are_online() and key.is_over(), SETTLES)
+        self.waits(lambda: False, 3)
+
+    def store(self):
+        """The service is killed once it has told an outcome, and the message comes again."""
+        key = self.orders("north", 0, 90)
+        self.waits(key.is_over, SETTLES)
+        self.service["north"].kills(0)
+        self.online = {}
+        self.waits(self.are_online, SETTLES)
+        self.again(key)
+
+    def tries_rules(self, *rules):
+        """What breaks a rule that is left out."""
+        self.begins()
+        for rule in rules:
+            {"dedupe": self.dedupe, "expiry": self.expiry, "store": self.store}[rule]()
+        return True
+
     def goes(self):
         """Orders and cards, while all fails, and until each has its end. Whether all came to its end."""
         words = self.words
-        self.asks(self.waits(lambda: all(self.online.get(line) == DEVICES for line in LINES), SETTLES), "the devices don't come online")
+        self.begins()
         next_order = next_card = next_wrong = next_gap = moment()
         next_fault = moment() + 2000
         while len(self.keys) < words.orders or self.shown < words.cards:
@@ -375,7 +424,7 @@ class Building:
             if now >= next_wrong:
                 self.sends_wrong()
                 next_wrong = now + 8 * words.pause
-            if now >= next_fault:
+            if now >= next_fault and (self.are_online() or self.random.random() < OVERLAP):
                 self.fails()
                 next_fault = now + self.random.randint(500, words.faults)
             if now >= next_gap:
@@ -385,6 +434,10 @@ class Building:
                 self.sends(key)
             time.sleep(0.01)
         return self.comes_to_end()
+
+    def are_online(self):
+        """Whether all devices are online, as their services have told it since the last look."""
+        return self.client.is_there and all(self.online.get(line) == DEVICES for line in LINES)
 
     def waits(self, until, seconds):
         """Waits until something holds, while nothing fails. Whether it does."""
@@ -408,8 +461,9 @@ class Building:
             self.asks(said == ["settled"], f"{key.key} at the end is {said}")
 
     def comes_to_end(self):
+        """Nothing fails any more, and all comes to its end. Whether it does."""
         self.heals()
-        self.asks(self.waits(lambda: all(self.online.get(line) == DEVICES for line in LINES), SETTLES), "the devices don't come back")
+        self.asks(self.waits(self.are_online, SETTLES), "the devices don't come back")
         self.goes_on_well()
         self.is_at_end, next_gap, quiet = True, 0, moment()
         end = time.monotonic() + SETTLES + self.words.longest + 40
@@ -524,6 +578,7 @@ def main():
     for name, value in (("--seed", 1), ("--orders", 120), ("--cards", 120), ("--longest", 5), ("--pause", 250), ("--faults", 2500)):
         parser.add_argument(name, type=int, default=value)
     parser.add_argument("--wrong", choices=list(FOUND))
+    parser.add_argument("--rules", action="store_true", help="what breaks rules that are left out, and nothing else")
     parser.add_argument("--kinds", help="what fails, as kills service,stops line")
     parser.add_argument("--keep", help="a folder for what is left")
     words = parser.parse_args()
@@ -536,7 +591,10 @@ def main():
         building = Building(words, work)
         began = time.monotonic()
         try:
-            building.asks(building.goes(), "not all came to its end")
+            if words.wrong:
+                building.tries_rules(words.wrong)
+            else:
+                building.asks(building.tries_rules(*FOUND) if words.rules else building.goes(), "not all came to its end")
         finally:
             building.ends()
         building.judges()

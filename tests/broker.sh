@@ -1,6 +1,6 @@
 #!/usr/bin/env bash
 # Lines as services over a broker: their parts alone (`broker_parts.py`), who may what (`broker_who.py`), and a broker, two lines and their services, of which nothing stays (`broker.py`),
-# also with each of three rules left out, which has to be found. Mosquitto and paho are installed where they aren't there. Takes the path of the program, and more words for
+# also what breaks each of three rules where it is left out, which has to be found. Mosquitto and paho are installed where they aren't there. Takes the path of the program, and more words for
 # `broker.py`, which is run alone then: `tests/broker.sh PROGRAM --seed 7 --orders 2000 --cards 2000 --longest 20`.
 set -u
 program=$(cd "$(dirname "$1")" && pwd)/$(basename "$1")
@@ -12,11 +12,10 @@ cd "$(dirname "$0")/.." || exit 1
 [ $# -eq 1 ] || { /usr/bin/python3 -B tests/broker.py "$program" "${@:2}"; exit; }
 /usr/bin/python3 -B tests/broker_parts.py || failed=1
 running=()
-runs() { timeout 200 /usr/bin/python3 -B "$@" & running+=($!); }
+runs() { timeout 400 /usr/bin/python3 -B "$@" & running+=($!); }
 runs tests/broker_who.py "$program"
 runs tests/broker.py "$program" --seed 1
-runs tests/broker.py "$program" --seed 2 --orders 40 --cards 10 --wrong dedupe --kinds 'stops line,kills service'
-runs tests/broker.py "$program" --seed 2 --orders 60 --cards 10 --wrong store --kinds 'kills service'
-runs tests/broker.py "$program" --seed 2 --orders 60 --cards 10 --wrong expiry --kinds 'stops line' --longest 14
+runs tests/broker.py "$program" --rules
+for rule in dedupe expiry store; do runs tests/broker.py "$program" --wrong "$rule"; done
 for process in "${running[@]}"; do wait "$process" || failed=1; done
 exit "$failed"

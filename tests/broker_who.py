@@ -31,7 +31,7 @@ def asks(holds, what):
         print(f"broker_who: {what}", flush=True)
 
 
-def waits(until, seconds=20.0):
+def waits(until, seconds=40.0):
     end = time.monotonic() + seconds
     while not until() and time.monotonic() < end:
         time.sleep(0.05)
@@ -141,7 +141,7 @@ class Place:
             process.wait()
 
 
-def ended(process, seconds=20.0):
+def ended(process, seconds=40.0):
     try:
         return process.wait(seconds)
     except subprocess.TimeoutExpired:
@@ -261,7 +261,7 @@ def goodbye(place, doors, service):
     place.line.send_signal(19)  # SIGSTOP: the device answers nothing
     time.sleep(6)
     doors.publishes("door-1/order", {"key": "waits-1", "command": "OUT 1:5:8"}, 100)
-    asks(waits(lambda: not doors.heard("/presence")[-1]["devices"]["door-1"]["online"]), "a device that is gone is told as there")
+    asks(waits(lambda: not doors.heard("/presence")[-1].get("devices", {"door-1": {"online": True}})["door-1"]["online"]), "a device that is gone is told as there")
     time.sleep(1)
     service.terminate()
     asks(ended(service) == 0, "SIGTERM doesn't end it well")
@@ -276,7 +276,7 @@ def main():
         work = Path(folder)
         work.chmod(0o755)
         manager.bind(str(work / "notify"))
-        manager.settimeout(10)
+        manager.settimeout(60)
         place = Place(osdp, work)
         try:
             checks(place)
