@@ -232,6 +232,9 @@ class Line:
             self.types(now)
 
     def ends(self):
+        """The line ends. One that is stopped would stay so."""
+        if self.script.process.poll() is None and self.kind.has_child and (child := self.child()):
+            os.kill(child, signal.SIGKILL)
         for process in (self.script.process, self.device.process):
             process.kill()
             process.wait()
@@ -340,6 +343,7 @@ def main():
     parser.add_argument("--orders", type=int)
     parser.add_argument("--seed", type=int, default=1)
     given = parser.parse_args()
+    signal.signal(signal.SIGTERM, lambda *_: sys.exit("stopped panels: it was ended"))
     begun, chance, found = time.monotonic(), random.Random(given.seed), list(kinds(given.osdp, given))
     if given.python:
         os.environ["OSDP_LIBRARY"] = given.python
@@ -347,10 +351,13 @@ def main():
         each = 12 if given.orders else 6
         lines = [Line(kind, at * 100 + one, given.osdp, given.shim, folder, random.Random(chance.random()), 20000 if given.orders else 5000)
                  for at, kind in enumerate(found) for one in range(2 if kind.is_endless else each)]
-        runs(lines, lambda: sum(len(line.typed) for line in lines) >= given.orders if given.orders else time.monotonic() > begun + 38)
+        try:
+            runs(lines, lambda: sum(len(line.typed) for line in lines) >= given.orders if given.orders else time.monotonic() > begun + 38)
+        finally:
+            for line in lines:
+                line.ends()
         counts = {kind.name: Counter() for kind in found}
         for line in lines:
-            line.ends()
             told, of_kind = line.judge(), counts[line.kind.name]
             latest = max(told.pop("latest", 0), of_kind.pop("latest", 0))
             of_kind.update(told)
