@@ -110,12 +110,12 @@ passes python3 bench/stack.py &&
       { calls += 1 }
       $2 > ($1 in most ? most[$1] : 4096) { print; more = 1 }
       END { exit more || calls < 80 }' "$work/said" || fail "a call takes more stack than it may"; }
-# .. and as `bench/exchange` measures it, with what the heap takes: the one that makes a panel keeps to 22,000, the one that makes a monitor to 6,000, and what a
+# .. and as `bench/exchange` measures it, with what the heap takes: the one that makes a panel keeps to 25,000, the one that makes a monitor to 6,000, and what a
 # monitor hears to 4,500
 build exchange bench/exchange.c c/heap_malloc.c "$archive" && passes "$work/exchange" &&
   { sed 's/^stack of //; s/ bytes, wanted.*//' "$work/said" | awk '
       BEGIN {
-        most["osdp_panel_new and add"] = 22000
+        most["osdp_panel_new and add"] = 25000
         most["osdp_monitor_new"] = 6000; most["osdp_monitor_bytes"] = 4500
       }
       { taken = $NF; sub(/ +[0-9]+$/, ""); if (taken > ($0 in most ? most[$0] : 4096)) { print; more = 1 } }
