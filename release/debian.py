@@ -42,7 +42,7 @@ if [ "$1" = purge ]; then
         [ ! -d "$folder" ] || rmdir --ignore-fail-on-non-empty "$folder"
     done
     if [ ! -d /var/lib/osdp ] && command -v deluser >/dev/null; then
-        deluser --quiet --system osdp
+        deluser --quiet --system osdp >/dev/null 2>&1 || true  # a process of its own may be left
     fi
 fi
 """,
