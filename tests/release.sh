@@ -100,7 +100,7 @@ passes python3 tests/release.py "$1"
 
 wait "$fetching" || { cat "$work/fetched"; fail 'no empty root'; exit "$failed"; }
 fetching=
-everything() { (cd "$root" && find . -xdev \( -path ./proc -o -path ./sys -o -path ./dev -o -path ./tmp -o -path ./var/log -o -path ./var/lib/dpkg -o -path ./var/cache \) -prune -o -type d -printf '%p/\n' -o -printf '%p %m %s %l\n' | sort); }
+everything() { (cd "$root" && find . -xdev \( -path ./proc -o -path ./sys -o -path ./dev -o -path ./tmp -o -path ./run -o -path ./var/log -o -path ./var/lib/dpkg -o -path ./var/cache \) -prune -o -type d -printf '%p/\n' -o -printf '%p %m %s %l\n' | sort); }
 inside() { passes chroot "$root" env -i PATH=/usr/sbin:/usr/bin:/sbin:/bin HOME=/tmp "$@"; }
 inside ldconfig
 inside python3 -c 'import ctypes, dataclasses, enum, pathlib, typing' # so that what Python compiles of its own is there before
@@ -120,7 +120,6 @@ inside sh -c 'dpkg -i /tmp/earlier/*.deb'
 inside sh -c 'dpkg -i /tmp/made/*.deb'
 [ "$(chroot "$root" dpkg-query -W -f '${db:Status-Abbrev}' osdp-dev)" != 'ii ' ] || fail 'the package that the new ones take over is still there'
 inside sh -c '[ "$(osdp --version)" = "osdp 0.1.0" ] && [ "$(osdp-port --version)" = "osdp-port 0.1.0" ]'
-inside sh -c 'cd / && python3 -c "import sys; sys.path.insert(0, \"/usr/share/osdp/port\"); import osdp_port.page.start, osdp_port.page.server"'
 inside sh -c 'cp /usr/share/osdp/service/line.toml /etc/osdp/north.toml && sed -i s,/dev/serial/by-id/usb-YOUR_ADAPTER,/dev/null, /etc/osdp/north.toml'
 inside sh -c 'cd / && setpriv --reuid osdp --regid osdp --init-groups osdp-port --config /etc/osdp/north.toml serve --new && osdp-port --plain --config /etc/osdp/north.toml serve --check | grep -q "^ready: line north"'
 inside sh -c 'rm -r /etc/osdp/north.toml /var/lib/osdp/north.store*'
