@@ -1,5 +1,5 @@
 -- The orders of an entry that have no end yet, whatever comes from the line: one of which a report tells was in front, and leaves.
-use Rattle.osdp_bus_laws.proofs.Common.{◌≡◌, ◌∙◌, ap, sym, ℕ, zero, suc, ◌+◌, ◌≤◌, Bool, true, false, ◌==◌, ◌||◌, List, [], ◌∷◌, ◌++◌, length, Option, Some, None, refl, arith, append_assoc, append-nil, eqb-true, if◌then◌else◌, is_some, not, option_to_list, slice_get, slice_set, items, Packet, RunItem, Command, Report, either_way, asked_by, asked_in, told_command, Machine, IsMachine, Entry, BusState, Devices, device_of, has_report, holder, is_silent, seen, waiting_after, entry_hears, entry_ticks, step_of, told_of, after_bytes, ends_run, ends_silent, hears_bytes, hears_items, hears_with, BusTicked, bus_ticks, is_due_at, is_held_and_due, next_due, stays, ticks_at, ticks_by, ticks_free, ticks_held, ticks_on, ticks_with}
+use Rattle.osdp_bus_laws.proofs.Common.{◌≡◌, ◌∙◌, ap, sym, ℕ, zero, suc, ◌+◌, ◌≤◌, Bool, true, false, ◌==◌, ◌||◌, List, [], ◌∷◌, ◌++◌, length, Option, Some, None, refl, arith, append_assoc, append-nil, eqb-true, if◌then◌else◌, is_some, not, option_to_list, slice_get, slice_set, items, Packet, RunItem, Command, Report, either_way, asked_by, asked_in, told_command, IsMachine, Entry, BusState, Devices, device_of, has_report, holder, is_silent, seen, waiting_after, entry_hears, entry_ticks, step_of, told_of, after_bytes, ends_run, ends_silent, hears_bytes, hears_items, hears_with, BusTicked, bus_ticks, is_due_at, is_held_and_due, next_due, stays, ticks_at, ticks_by, ticks_free, ticks_held, ticks_on, ticks_with}
 use Rattle.std.proofs.lemmas.Bool.{eqb-false}
 use Rattle.std.proofs.lemmas.List.{length-append}
 use Rattle.std.specs.Prelude.{◌≢◌}

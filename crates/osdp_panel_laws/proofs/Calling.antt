@@ -2,24 +2,22 @@
 use Rattle.std.proofs.Common.{◌≡◌, ◌∙◌, ap, sym, refl, ℕ, Bool, true, false, List, [], ◌∷◌, ◌++◌, Option, Some, None}
 use Rattle.std.specs.Prelude.{if◌then◌else◌, option_map, ◌==◌, nat_lt, is_some}
 use Rattle.osdp_msg.specs.declared.command.Command.{Command}
-use Rattle.osdp_bus.specs.declared.config.BusConfig.{BusConfig}
 use Rattle.osdp_bus.specs.declared.entry.Entry.{Entry}
 use Rattle.osdp_bus.specs.declared.fault.BusFault.{BusFault}
 use Rattle.osdp_bus.specs.declared.fault.BusFault.TheVariants.{AddressOutOfRange}
 use Rattle.osdp_bus.specs.Asking.{question}
-use Rattle.osdp_bus.specs.Buses.{BusState, device_of, has_report, new_bus}
-use Rattle.osdp_bus.specs.Hearing.{after_bytes}
+use Rattle.osdp_bus.specs.Buses.{BusState, device_of, has_report}
 use Rattle.osdp_bus.specs.Machine.{add_refusal, after_add, after_next_report, after_submit_at, changed_unless, leads_nowhere, order_refusal_at, order_refusal_of, submit_refusal_at, submit_refusal_of}
-use Rattle.osdp_bus.specs.Ticking.{BusTicked, bus_ticks}
+use Rattle.osdp_bus.specs.Ticking.{bus_ticks}
 use Rattle.osdp_controller.specs.Hearing.{comset_of}
 use Rattle.osdp_bus_laws.specs.Calls as bus
 use Rattle.osdp_panel.specs.declared.fault.PanelFault.{PanelFault}
 use Rattle.osdp_panel.specs.declared.fault.PanelFault.TheVariants as panel
 use Rattle.osdp_panel.specs.Giving.{after_give, give_refusal, give_refusal_of, late_at}
 use Rattle.osdp_panel.specs.Orders.{Orders, PanelState, brings, never, orders_at}
-use Rattle.osdp_panel.specs.Panels.{after_add_at, new_panel, panel_config}
-use Rattle.osdp_panel.specs.Sending.{goes_out, holds_back, lasts, rests, sends, sends_of, until_by, polled_by}
-use Rattle.osdp_panel.specs.Telling.{after_settle, expires}
+use Rattle.osdp_panel.specs.Panels.{after_add_at, new_panel}
+use Rattle.osdp_panel.specs.Sending.{holds_back, rests, sends, sends_of, until_by, polled_by}
+use Rattle.osdp_panel.specs.Telling.{expires}
 use Rattle.osdp_panel_laws.specs.Calls.{AreCallsOfItsBus, Call, Add, Retarget, Begin, Submit, Withdraw, Hear, Silence, NextReport, Tick, Write, after_call, after_calls, bus_calls, bus_calls_along, submits, withdraws}
 
 -- what the panel keeps beside its bus leaves the bus

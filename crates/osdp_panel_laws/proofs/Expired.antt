@@ -1,11 +1,10 @@
 -- An order that has expired never went out: what its number is, and what the orders on their way have.
-use Rattle.std.proofs.Common.{◌≡◌, ◌∙◌, ap, sym, subst, inl, inr, refl, arith, append_assoc, ℕ, zero, suc, ◌+◌, ◌-◌, ◌≤◌, Bool, true, false, List, [], ◌∷◌, ◌++◌, length, map, Option, Some, None, Result, Ok, Err}
+use Rattle.std.proofs.Common.{◌≡◌, ◌∙◌, ap, sym, subst, inl, inr, refl, arith, append_assoc, ℕ, zero, suc, ◌+◌, ◌-◌, ◌≤◌, Bool, false, List, [], ◌∷◌, ◌++◌, length, map, Option, Some, None, Result, Ok, Err}
 use Rattle.std.proofs.lemmas.List.{length-append}
 use Rattle.std.specs.Prelude.{◌⊎◌, if◌then◌else◌, is_some, option_to_list, slice_get, slice_set}
 use Rattle.osdp_msg.specs.declared.command.Command.{Command}
 use Rattle.osdp_controller.specs.declared.report.Report.{Report}
 use Rattle.osdp_controller.specs.Held.{on_its_way}
-use Rattle.osdp_controller_laws.specs.Commands.{asked_in}
 use Rattle.osdp_bus.specs.declared.config.BusConfig.{BusConfig}
 use Rattle.osdp_bus.specs.declared.entry.Entry.{Entry}
 use Rattle.osdp_bus.specs.declared.fault.BusFault.{BusFault}
@@ -16,18 +15,17 @@ use Rattle.osdp_bus.specs.Settings.{IsBusConfig}
 use Rattle.osdp_bus_laws.proofs.OneDevice.{pending}
 use Rattle.osdp_bus_laws.proofs.Sound.{SoundBus}
 use Rattle.osdp_panel.specs.declared.report.PanelReport.{PanelReport}
-use Rattle.osdp_panel.specs.declared.report.What.{What}
 use Rattle.osdp_panel.specs.declared.report.What.TheVariants.{Expired}
 use Rattle.osdp_panel.specs.Giving.{late_at}
-use Rattle.osdp_panel.specs.Orders.{Orders, PanelState, orders_at}
+use Rattle.osdp_panel.specs.Orders.{PanelState, orders_at}
 use Rattle.osdp_panel.specs.Panels.{new_panel}
 use Rattle.osdp_panel.specs.Telling.{expired_at, expired_of, expires, front_number, tells, told_by}
 use Rattle.osdp_panel_laws.specs.Calls.{Call, NextReport, after_call, after_calls}
 use Rattle.osdp_panel_laws.specs.NeverSent.{ExpiredNeverWentOut, IsOnItsWay, count_ended}
 use Rattle.osdp_panel_laws.specs.Outcome.{Ended, Order, Shares, accepted_in, added_in, along, back_in, told_in, waits_to_be_told}
 use Rattle.osdp_panel_laws.proofs.Ahead.{out_in, pending_at, pending_in, set_same}
-use Rattle.osdp_panel_laws.proofs.FromLine.{GivesBack, Gives, gives}
-use Rattle.osdp_panel_laws.proofs.NeverSent.{Grows, list_grows, parts, waiting_at, waiting_in}
+use Rattle.osdp_panel_laws.proofs.FromLine.{Gives, gives}
+use Rattle.osdp_panel_laws.proofs.NeverSent.{list_grows, parts, waiting_at}
 use Rattle.osdp_panel_laws.proofs.Outcome.{all_steps, more_along, new_holds, nothing_yet, sound_from_new, still_sound}
 use Rattle.osdp_panel_laws.proofs.Standing.{Holds, asked_same, get_both, orders_are, set_to, waits_is}
 

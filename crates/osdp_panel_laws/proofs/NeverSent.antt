@@ -1,38 +1,28 @@
 -- An order that has expired never went out: those that wait leave in front, and so do those that have no end.
-use Rattle.std.proofs.Common.{◌≡◌, ◌∙◌, ap, sym, subst, inl, inr, refl, arith, append_assoc, ℕ, zero, suc, ◌+◌, ◌-◌, ◌≤◌, Bool, true, false, max, List, [], ◌∷◌, ◌++◌, drop, length, Option, Some, None, Result, Ok, Err}
+use Rattle.std.proofs.Common.{◌≡◌, ◌∙◌, ap, sym, subst, refl, arith, ℕ, zero, suc, ◌+◌, ◌≤◌, Bool, true, false, max, List, [], ◌∷◌, ◌++◌, drop, length, Option, Some, None}
 use Rattle.std.proofs.lemmas.Bool.{eqb-false, eqb-true}
 use Rattle.std.proofs.lemmas.List.{length-append}
-use Rattle.std.specs.Prelude.{◌⊎◌, ◌==◌, if◌then◌else◌, is_some, option_to_list, slice_get, slice_set}
-use Rattle.std.specs.Option.{option_map_or}
+use Rattle.std.specs.Prelude.{◌==◌, if◌then◌else◌, is_some, option_to_list, slice_get, slice_set}
 use Rattle.osdp_msg.specs.declared.command.Command.{Command}
 use Rattle.osdp_controller.specs.declared.report.Report.{Report}
 use Rattle.osdp_controller.specs.Held.{on_its_way}
 use Rattle.osdp_controller_laws.specs.Commands.{asked_in}
-use Rattle.osdp_bus.specs.declared.config.BusConfig.{BusConfig}
 use Rattle.osdp_bus.specs.declared.entry.Entry.{Entry}
-use Rattle.osdp_bus.specs.declared.fault.BusFault.{BusFault}
 use Rattle.osdp_bus.specs.Buses.{BusState, Devices, device_of, has_report, seen}
-use Rattle.osdp_bus.specs.Machine.{add_refusal, after_add, after_begin_at, after_retarget_at, after_submit_at, after_withdraw_at, begin_refusal_at, changed_unless, changes_entry, entry_begins, entry_retargets, entry_submits, entry_withdraws, new_device, retarget_refusal_at, submit_refusal_at, withdrawal_at, withdrawal_of, withdrawn_of}
+use Rattle.osdp_bus.specs.Machine.{add_refusal, after_add, after_begin_at, after_retarget_at, after_submit_at, after_withdraw_at, begin_refusal_at, changed_unless, changes_entry, entry_begins, entry_retargets, entry_submits, entry_withdraws, new_device, retarget_refusal_at, submit_refusal_at}
 use Rattle.osdp_bus_laws.specs.Calls as bus
 use Rattle.osdp_bus_laws.proofs.Calling.{sound_call}
 use Rattle.osdp_bus_laws.proofs.OneDevice.{pending}
 use Rattle.osdp_bus_laws.proofs.Sound.{SoundBus, sound_seen}
 use Rattle.osdp_panel.specs.declared.fault.PanelFault.{PanelFault}
-use Rattle.osdp_panel.specs.declared.report.PanelReport.{PanelReport}
-use Rattle.osdp_panel.specs.declared.report.What.{What}
-use Rattle.osdp_panel.specs.declared.report.What.TheVariants.{Expired}
 use Rattle.osdp_panel.specs.Giving.{give_refusal, give_refusal_of, late_at}
 use Rattle.osdp_panel.specs.Orders.{Orders, PanelState, orders_at}
-use Rattle.osdp_panel.specs.Panels.{new_panel}
-use Rattle.osdp_panel.specs.Telling.{expired_at, expired_of, expires, front_number, tells, told_by}
 use Rattle.osdp_panel_laws.specs.Calls.{Call, Add, Retarget, Begin, Submit, Withdraw, Hear, Silence, NextReport, Tick, Write, after_call, after_calls, bus_calls, submits, withdraws}
-use Rattle.osdp_panel_laws.specs.NeverSent.{ExpiredNeverWentOut, IsOnItsWay, count_ended}
-use Rattle.osdp_panel_laws.specs.Outcome.{Ended, Order, Shares, accepted_as, accepted_in, added_in, along, back_in, told_in, waits_to_be_told}
-use Rattle.osdp_panel_laws.proofs.Ahead.{Leaves, leaves_bytes, leaves_run, leaves_tick, out_at, out_in, pending_at, pending_in, set_other, set_same, tells_at}
+use Rattle.osdp_panel_laws.specs.Outcome.{accepted_as, accepted_in, along}
+use Rattle.osdp_panel_laws.proofs.Ahead.{Leaves, leaves_bytes, leaves_run, leaves_tick, out_in, pending_at, pending_in, set_other, set_same, tells_at}
 use Rattle.osdp_panel_laws.proofs.Calling.{one_call}
-use Rattle.osdp_panel_laws.proofs.FromLine.{GivesBack, Gives, gives}
-use Rattle.osdp_panel_laws.proofs.Outcome.{all_steps, new_holds, nothing_yet, sound_from_new, still_sound}
-use Rattle.osdp_panel_laws.proofs.Standing.{Holds, asked_same, get_both, orders_are, set_to, waits_is}
+use Rattle.osdp_panel_laws.proofs.Outcome.{still_sound}
+use Rattle.osdp_panel_laws.proofs.Standing.{set_to}
 
 -- ---- how many orders wait
 

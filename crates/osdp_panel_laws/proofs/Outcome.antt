@@ -1,45 +1,33 @@
 -- What becomes of each order, call after call.
-use Rattle.std.proofs.Common.{◌≡◌, ◌∙◌, ap, sym, subst, inl, inr, refl, arith, append_assoc, append-nil, ℕ, zero, suc, ◌+◌, ◌-◌, ◌<◌, ◌≤◌, Bool, true, false, max, List, [], ◌∷◌, ◌++◌, drop, length, Option, Some, None, Result, Ok, Err}
-use Rattle.std.proofs.lemmas.Bool.{eq-eqb, eqb-false, eqb-true}
+use Rattle.std.proofs.Common.{◌≡◌, ◌∙◌, ap, sym, subst, refl, arith, append_assoc, append-nil, ℕ, zero, suc, ◌+◌, Bool, true, false, List, [], ◌∷◌, ◌++◌, length, Option, Some, None}
 use Rattle.std.proofs.lemmas.List.{length-append}
-use Rattle.std.specs.Prelude.{◌⊎◌, ◌≢◌, ◌==◌, if◌then◌else◌, is_some, nat_lt, option_map, option_to_list, slice_get, slice_set}
-use Rattle.circular_buffer.specs.Buffer.{keep_last}
-use Rattle.osdp_msg.specs.declared.command.Command.{Command}
+use Rattle.std.specs.Prelude.{if◌then◌else◌, is_some, nat_lt, option_to_list, slice_get}
 use Rattle.osdp_controller.specs.declared.report.Report.{Report}
-use Rattle.osdp_controller.specs.declared.state.State.{State}
-use Rattle.osdp_controller.specs.declared.state.State.TheVariants.{Closed, Quiet, Idle, Waiting, Pausing}
-use Rattle.osdp_controller.specs.Held.{on_its_way}
-use Rattle.osdp_controller.specs.Machine.{kept_in, withdrawn_in}
-use Rattle.osdp_controller_laws.specs.Commands.{asked_in, told_command}
 use Rattle.osdp_bus.specs.declared.config.BusConfig.{BusConfig}
 use Rattle.osdp_bus.specs.declared.entry.Entry.{Entry}
 use Rattle.osdp_bus.specs.declared.fault.BusFault.{BusFault}
-use Rattle.osdp_bus.specs.Asking.{orders_of, question}
-use Rattle.osdp_bus.specs.Buses.{BusState, device_of, has_report, seen}
-use Rattle.osdp_bus.specs.Hearing.{after_bytes, after_silence, ends_silent}
-use Rattle.osdp_bus.specs.Machine.{add_refusal, after_add, after_next_report, after_submit_at, after_withdraw_at, changed_unless, entry_submits, entry_withdraws, new_device, withdrawal_at, withdrawal_of, withdrawn_of}
+use Rattle.osdp_bus.specs.Asking.{question}
+use Rattle.osdp_bus.specs.Buses.{BusState, has_report, seen}
+use Rattle.osdp_bus.specs.Hearing.{after_bytes, after_silence}
+use Rattle.osdp_bus.specs.Machine.{add_refusal, after_next_report, changed_unless, new_device, withdrawal_at}
 use Rattle.osdp_bus.specs.Ticking.{bus_ticks}
 use Rattle.osdp_bus_laws.proofs.OneDevice.{pending}
 use Rattle.osdp_bus_laws.proofs.Sound.{SoundBus}
 use Rattle.osdp_bus_laws.proofs.Staying.{stays_silent, stays_tick}
-use Rattle.osdp_panel.specs.declared.fault.PanelFault.{PanelFault}
-use Rattle.osdp_panel.specs.Giving.{after_give, after_withdraw, give_refusal, give_refusal_of, given, gives_in, late_at}
-use Rattle.osdp_panel.specs.Orders.{Orders, PanelState, brings, ended_in, kept_from, orders_at, reported, told_after}
+use Rattle.osdp_panel.specs.Giving.{after_withdraw, give_refusal, late_at}
+use Rattle.osdp_panel.specs.Orders.{Orders, PanelState, brings}
 use Rattle.osdp_panel.specs.Panels.{after_add_at, new_orders}
 use Rattle.osdp_panel.specs.Sending.{holds_back, polled_by, rests, sends, sends_of, until_by}
-use Rattle.osdp_panel.specs.Telling.{expired_at, expires, expired_of, front_number, is_of_order, tells, told_by, where_so}
+use Rattle.osdp_panel.specs.Telling.{expired_at, expires, expired_of, tells, told_by}
 use Rattle.osdp_panel_laws.specs.Calls.{Call, Add, Retarget, Begin, Submit, Withdraw, Hear, Silence, NextReport, Tick, Write, after_call, after_calls}
 use Rattle.osdp_panel_laws.specs.Outcome.{Ended, Order, accepted_as, accepted_in, added_in, back_in, ended_as, ended_by, numbered, taken_back, told_in, waits_to_be_told}
-use Rattle.osdp_panel_laws.proofs.Ahead.{Leaves, leaves_bytes, leaves_run, leaves_tick, listed, pending_at, pending_in, room_at, room_in, set_count, set_other, set_same, tells_at}
+use Rattle.osdp_panel_laws.proofs.Ahead.{leaves_bytes, leaves_run, leaves_tick, pending_at, pending_in, room_at, room_in}
 use Rattle.osdp_panel_laws.proofs.Standing.{Holds, IsCounted, IsQuiet, IsSo, Tally, as_it_is, ends_none, ends_one, get_both, kept_so, moments_at, moments_in, more, orders_are, pushed, pushed_at, pushed_none, quiet_begin, quiet_other, quiet_retarget, quiet_set, quiet_so, set_to, stands_by, there_is, waiting_of, waits_is, within}
-use Rattle.osdp_panel_laws.proofs.Tallies.{Stands, front_of, keep_all, numbered_on, size_new, stands_back, stands_new, stands_same, stands_told}
-use Rattle.osdp_panel_laws.proofs.FromLine.{GivesBack, Gives, brings_so, gives, kept_quiet, leaves_back, leaves_late}
-use Rattle.osdp_bus.specs.Buses.{new_bus}
+use Rattle.osdp_panel_laws.proofs.FromLine.{brings_so}
 use Rattle.osdp_bus.specs.Machine.{after_begin_at, after_retarget_at, begin_refusal_at, retarget_refusal_at}
 use Rattle.osdp_bus.specs.Settings.{IsBusConfig}
 use Rattle.osdp_bus_laws.proofs.Calling.{sound_calls, sound_new}
 use Rattle.osdp_bus_laws.proofs.Sound.{sound_seen}
-use Rattle.osdp_bus_laws.proofs.Staying.{stays_call}
 use Rattle.osdp_panel.specs.Panels.{new_panel, panel_config}
 use Rattle.osdp_panel_laws.specs.Calls.{bus_calls}
 use Rattle.osdp_panel_laws.specs.Outcome.{HasOutcome, OrdersHaveOneOutcome, Shares, along}

@@ -1,8 +1,8 @@
 -- What holds of an entry's orders at all times, and what a call of its bus may leave as it is.
-use Rattle.std.proofs.Common.{◌≡◌, ◌∙◌, ap, sym, subst, inl, inr, refl, arith, append_assoc, append-nil, ℕ, zero, suc, ◌+◌, ◌-◌, ◌<◌, ◌≤◌, Bool, true, false, cond, max, List, [], ◌∷◌, ◌++◌, length, map, Option, Some, None, Result, Ok, Err}
+use Rattle.std.proofs.Common.{◌≡◌, ◌∙◌, ap, sym, subst, refl, arith, append-nil, ℕ, zero, suc, ◌+◌, Bool, true, false, max, List, [], ◌∷◌, ◌++◌, length, Option, Some, None}
 use Rattle.std.proofs.lemmas.Bool.{eqb-false, eqb-true}
 use Rattle.std.proofs.lemmas.List.{length-append}
-use Rattle.std.specs.Prelude.{◌⊎◌, ◌≢◌, ◌==◌, if◌then◌else◌, is_some, nat_lt, option_map, option_to_list, slice_get, slice_set}
+use Rattle.std.specs.Prelude.{◌≢◌, ◌==◌, if◌then◌else◌, is_some, option_map, option_to_list, slice_get, slice_set}
 use Rattle.std.specs.Option.{option_map_or}
 use Rattle.circular_buffer.specs.Buffer.{keep_last}
 use Rattle.osdp_msg.specs.declared.command.Command.{Command}
@@ -15,28 +15,16 @@ use Rattle.osdp_controller.specs.Machine.{refused_unless_closed}
 use Rattle.osdp_controller_laws.specs.Commands.{asked_in, told_command}
 use Rattle.osdp_bus.specs.declared.config.BusConfig.{BusConfig}
 use Rattle.osdp_bus.specs.declared.entry.Entry.{Entry}
-use Rattle.osdp_bus.specs.declared.fault.BusFault.{BusFault}
-use Rattle.osdp_bus.specs.Asking.{orders_of, question}
-use Rattle.osdp_bus.specs.Buses.{BusState, Devices, device_of, has_report, new_bus, seen}
-use Rattle.osdp_bus.specs.Hearing.{after_bytes, after_silence, ends_silent}
+use Rattle.osdp_bus.specs.Asking.{orders_of}
+use Rattle.osdp_bus.specs.Buses.{BusState, device_of, seen}
 use Rattle.osdp_bus.specs.Machine.{add_refusal, after_add, after_begin_at, after_next_report, after_retarget_at, after_submit_at, after_withdraw_at, begin_refusal_at, begin_refusal_of, changed_unless, changes_entry, entry_begins, entry_retargets, entry_submits, entry_withdraws, new_device, retarget_refusal_at, withdrawal_at, withdrawal_of, withdrawn_of}
-use Rattle.osdp_bus.specs.Settings.{IsBusConfig}
-use Rattle.osdp_bus.specs.Ticking.{bus_ticks}
-use Rattle.osdp_bus_laws.specs.Calls as bus
-use Rattle.osdp_bus_laws.proofs.Calling.{sound_calls, sound_new}
 use Rattle.osdp_bus_laws.proofs.OneDevice.{pending}
-use Rattle.osdp_bus_laws.proofs.Sound.{SoundBus, sound_seen}
-use Rattle.osdp_bus_laws.proofs.Staying.{stays_begin, stays_call, stays_silent, stays_tick}
-use Rattle.osdp_panel.specs.declared.fault.PanelFault.{PanelFault}
-use Rattle.osdp_panel.specs.Giving.{after_give, give_refusal, give_refusal_of, given, gives_in, late_at}
-use Rattle.osdp_panel.specs.Orders.{Orders, PanelState, brings, ended_in, kept, kept_from, orders_at, reported, told_after}
-use Rattle.osdp_panel.specs.Panels.{new_orders, new_panel, panel_config}
-use Rattle.osdp_panel.specs.Sending.{holds_back, polled_by, rests, sends, sends_of, until_by}
-use Rattle.osdp_panel.specs.Telling.{expired_at, expires, expired_of, front_number, is_of_order, tells, told_by, told_of, where_so}
-use Rattle.osdp_panel_laws.specs.Calls.{Call, Add, Retarget, Begin, Submit, Withdraw, Hear, Silence, NextReport, Tick, Write, after_call, after_calls, bus_calls}
-use Rattle.osdp_panel_laws.specs.Outcome.{AreNumbered, Ended, HasOutcome, Order, OrdersHaveOneOutcome, Shares, accepted_as, accepted_in, added_in, along, back_in, command_in, ended_as, ended_by, numbered, taken_back, told_in, waits_to_be_told}
-use Rattle.osdp_panel_laws.proofs.Ahead.{Leaves, leaves_bytes, leaves_run, leaves_tick, listed, out_of, pending_at, pending_in, room_at, room_in, set_count, set_other, set_same, tells_at}
-use Rattle.osdp_panel_laws.proofs.Calling.{one_call}
+use Rattle.osdp_panel.specs.Orders.{Orders, PanelState, kept, kept_from}
+use Rattle.osdp_panel.specs.Sending.{sends}
+use Rattle.osdp_panel.specs.Telling.{is_of_order, told_by, where_so}
+use Rattle.osdp_panel_laws.specs.Calls.{Call}
+use Rattle.osdp_panel_laws.specs.Outcome.{AreNumbered, Ended, Order, Shares, accepted_in, added_in, back_in, ended_as, ended_by, told_in, waits_to_be_told}
+use Rattle.osdp_panel_laws.proofs.Ahead.{pending_at, pending_in, room_at, room_in, set_count, set_other, set_same}
 use Rattle.osdp_panel_laws.proofs.Tallies.{Front, Stands, commands, front_of, keep_all, number_at, numbered_on, size_new, stands_back, stands_new, stands_same, stands_told, untils}
 
 -- ---- lists

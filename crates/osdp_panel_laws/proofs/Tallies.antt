@@ -1,7 +1,6 @@
 -- What has become of orders, as lists: how these lists go on.
-use Rattle.std.proofs.Common.{◌≡◌, ◌∙◌, ap, sym, subst, inl, inr, refl, arith, append_assoc, append-nil, ℕ, zero, suc, ◌+◌, ◌-◌, ◌≤◌, List, [], ◌∷◌, ◌++◌, drop, length, map, Option, Some, None}
+use Rattle.std.proofs.Common.{◌≡◌, ◌∙◌, ap, sym, subst, inl, inr, refl, arith, append_assoc, ℕ, suc, ◌+◌, ◌-◌, ◌≤◌, List, [], ◌∷◌, ◌++◌, drop, length, map}
 use Rattle.std.proofs.lemmas.List.{length-append, map-append}
-use Rattle.std.specs.Prelude.{◌⊎◌, slice_get}
 use Rattle.circular_buffer.specs.Buffer.{keep_last}
 use Rattle.osdp_msg.specs.declared.command.Command.{Command}
 use Rattle.osdp_panel_laws.specs.Outcome.{AreNumbered, Ended, Order, Shares, ended_of}

@@ -1,8 +1,8 @@
 -- One call of a panel after the other, and the calls of its bus that each of them is.
-use Rattle.std.specs.Prelude.{◌≡◌, ℕ, max, if◌then◌else◌, List, [], ◌∷◌, ◌++◌, Option, Some, None}
+use Rattle.std.specs.Prelude.{◌≡◌, ℕ, if◌then◌else◌, List, [], ◌∷◌, ◌++◌, Option, Some, None}
 use Rattle.osdp_msg.specs.declared.command.Command.{Command}
 use Rattle.osdp_bus.specs.declared.config.BusConfig.{BusConfig}
-use Rattle.osdp_bus.specs.Buses.{BusState, has_report, new_bus}
+use Rattle.osdp_bus.specs.Buses.{has_report, new_bus}
 use Rattle.osdp_bus.specs.Machine.{add_refusal, after_begin_at, after_retarget_at, begin_refusal_at, changed_unless, retarget_refusal_at}
 use Rattle.osdp_bus_laws.specs.Calls as bus
 use Rattle.osdp_panel.specs.declared.fault.PanelFault.{PanelFault}

@@ -1,5 +1,5 @@
 -- A panel all of whose orders may be sent for ever does what its bus does.
-use Rattle.std.specs.Prelude.{◌≡◌, ℕ, ◌≤◌, ◌<◌, ◌^◌, false, All, List, Option, Some, None}
+use Rattle.std.specs.Prelude.{◌≡◌, ℕ, ◌<◌, ◌^◌, false, All, List, Option, None}
 use Rattle.osdp_bus.specs.declared.asking.Question.{Question}
 use Rattle.osdp_bus.specs.declared.config.BusConfig.{BusConfig}
 use Rattle.osdp_bus.specs.Ticking.{bus_ticks}

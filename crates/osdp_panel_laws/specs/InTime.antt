@@ -1,5 +1,5 @@
 -- Until when a packet is given out.
-use Rattle.std.specs.Prelude.{◌≡◌, ◌≢◌, ℕ, ◌≤◌, true, max, List, [], ◌∷◌, ◌++◌, Some, is_some}
+use Rattle.std.specs.Prelude.{◌≡◌, ◌≢◌, ℕ, ◌≤◌, true, max, List, [], ◌∷◌, ◌++◌, is_some}
 use Rattle.osdp_bus.specs.declared.config.BusConfig.{BusConfig}
 use Rattle.osdp_bus.specs.Asking.{question}
 use Rattle.osdp_panel.specs.Orders.{PanelState}

@@ -1,5 +1,5 @@
 -- The numbers of orders.
-use Rattle.std.specs.Prelude.{◌≡◌, ℕ, ◌+◌, Bool, true, false, not, ◌&&◌, ◌==◌, if◌then◌else◌, is_some, Some}
+use Rattle.std.specs.Prelude.{◌≡◌, ℕ, ◌+◌, Bool, false, not, ◌&&◌, ◌==◌, if◌then◌else◌, is_some, Some}
 use Rattle.osdp_panel.specs.Giving.{give_refusal}
 use Rattle.osdp_panel.specs.Orders.{Orders, PanelState, orders_at}
 use Rattle.osdp_panel_laws.specs.Calls.{Call, Submit, after_call}
