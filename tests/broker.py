@@ -395,7 +395,7 @@ class Building:
         key = self.orders("north", 0, 90)
         self.waits(key.is_over, SETTLES)
         self.service["north"].kills(0)
-        self.online = {}
+        self.online["north"] = 0
         self.waits(self.are_online, SETTLES)
         self.again(key)
 

@@ -11,7 +11,7 @@ sys.path.insert(0, str(TOP / "port"))
 sys.dont_write_bytecode = True
 
 from osdp_port.rounds import Place  # noqa: E402
-from osdp_port.serve import messages, pulses, settings  # noqa: E402
+from osdp_port.serve import ledger, messages, pulses, settings  # noqa: E402
 from osdp_port.serve.messages import Rejected  # noqa: E402
 from osdp_port.serve.outbox import Outbox  # noqa: E402
 from osdp_port.serve.topics import Topics  # noqa: E402
@@ -123,6 +123,14 @@ def judge_asked():
         asks(told(messages.asked_of, json.dumps({"version": 1, "events": events}).encode()), f"{events} can be asked for")
 
 
+def judge_owner(folder):
+    """A copy of a store on another computer is another owner; at the same one it is the same."""
+    for name in ("one", "two"):
+        (folder / name).write_text(f"{name}\n")
+    found = [ledger.owner_of("store", str(folder / name)) for name in ("one", "two", "none", "one")] + [ledger.owner_of("other", str(folder / "one"))]
+    asks(found[0] == found[3] and len(set(found)) == 4 and all(len(each) == 16 for each in found), f"owners: {found}")
+
+
 def judge_times():
     """An order that names a pulse is over so many seconds after that, by the clock of the service."""
     now, pulse = 5000, pulses.told()
@@ -190,7 +198,7 @@ def judge_manager(folder):
 
 if __name__ == "__main__":
     with tempfile.TemporaryDirectory() as work:
-        judge_settings(Path(work)), judge_manager(Path(work))
+        judge_settings(Path(work)), judge_manager(Path(work)), judge_owner(Path(work))
     judge_orders(), judge_asked(), judge_times(), judge_events(), judge_topics(), judge_outbox()
     print(f"parts of a service: {len(faults)} faults", *faults, sep="\n")
     sys.exit(1 if faults else 0)

@@ -22,6 +22,7 @@ OLDEST = 5000  # a message may lie this many milliseconds behind a pulse
 SILENT = 6000  # a broker that confirms no pulse for so long is dropped, in milliseconds
 ANSWERS = 2500  # .. and for so long it is given no outcome and no event, which would lie there
 LONGEST = 5000  # milliseconds between two attempts, at most
+LARGEST = 16384  # bytes of a packet that the broker may send
 MOST = 50  # messages that are read in a turn
 IN_FLIGHT = 20  # messages that the broker hasn't confirmed, at most, as brokers allow that
 
@@ -88,10 +89,12 @@ class Broker:
         """Connects, in a thread of its own, and wakes the service."""
         why = None
         try:
-            expiry = properties(PacketTypes.CONNECT, SessionExpiryInterval=self.settings.orders_keys)
+            more = properties(
+                PacketTypes.CONNECT, SessionExpiryInterval=self.settings.orders_keys, MaximumPacketSize=LARGEST
+            )
             client.connect(
                 self.settings.broker_host, self.settings.broker_port, KEEP_ALIVE, clean_start=False,
-                properties=expiry,
+                properties=more,
             )
         except Exception as error:  # of the system, of TLS, or of a name
             why = f"{type(error).__name__}: {error}" if not isinstance(error, OSError) else str(error)

@@ -2,6 +2,7 @@
 panel and what the broker hears of it are one transaction.
 
 A device is named by the address that it had first, as in the panel's tables."""
+import hashlib
 import secrets
 import sqlite3
 import time
@@ -19,6 +20,15 @@ KEYS = f"SELECT {', '.join(Key._fields)} FROM broker_keys"
 EVENTS = f"SELECT {', '.join(Event._fields)} FROM broker_events"
 
 
+def owner_of(name, path="/etc/machine-id"):
+    """Who has a line: a store on a computer. So a copy of a store on another computer is another one."""
+    try:
+        machine = Path(path).read_bytes()
+    except OSError:
+        machine = b""
+    return hashlib.sha256(name.encode() + machine).hexdigest()[:16]
+
+
 class Ledger:
     """The tables of the service. `keeps` says how many seconds a key stays once its outcome was told."""
 
@@ -26,7 +36,7 @@ class Ledger:
         self.store, self.keeps = store, 1000 * keeps
         self.told_keys, self.told_events, self.noted = [], [], time.monotonic()
         self.makes()
-        self.owner = store.value("SELECT owner FROM broker")
+        self.owner = owner_of(store.value("SELECT owner FROM broker"))
 
     def makes(self):
         """Makes the tables where there are none. A store of a later version is refused."""
