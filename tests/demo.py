@@ -2,7 +2,7 @@
 """Clicks on the page of demo/ in Chromium without a window: `demo.py PROGRAM PAGE [PICTURE]`.
 
 - Of each schedule here each step is clicked. The page then has written down the same schedule, and its lists are the account that `osdp sim` gives of it.
-- Some hundred clicks by chance, on whatever may be clicked: the lists are the account of the schedule that the page has written down.
+- Some hundred clicks by chance, on whatever may be clicked, with a POLL between two orders: the lists are the account of the schedule that the page has written down.
 - The monitor on the page tells of each line what `osdp monitor` prints of it. It accuses nobody where nothing is lost alone on its way to one end.
 - It runs by itself, and stops.
 - Power is pulled: what the page tells is what the rules say, and no order is done twice.
@@ -41,10 +41,24 @@ document.addEventListener("line-ready", () => {
   };
   const lane = (name) => { const item = document.querySelector("#" + name + " .packet"); if (!item) { throw new Error("no packet: " + name); } item.click(); };
   const chance = (() => { let seed = SEED; return (most) => { seed = (seed * 1103515245 + 12345) % 2147483648; return Math.floor(seed / 65536) % most; }; })();
+  // Between two orders of a session the panel asks for events, and the panel of a simulated line doesn't. So an order comes when none of its reader is ahead, and so many clicks
+  // after the last one has ended that a POLL has been answered since.
+  const count = (name, which) => Number(document.querySelector(`[data-count=${name}][data-which="${which}"]`).firstChild.textContent);
+  const ended = [0, 0], since = [25, 25];
+  const may_order = (which) => {
+    const now = count("settled", which) + count("unsettled", which);
+    since[which] = now === ended[which] ? since[which] + 1 : 0;
+    ended[which] = now;
+    return count("issued", which) === now && since[which] >= 25;
+  };
   const random = () => {
+    const orders = [may_order(0), may_order(1)];
     const front = ["to-reader", "to-controller"].filter((name) => document.querySelector("#" + name + " .packet"));
     const kind = chance(20);
-    if (kind < 2) { click("#reader-" + (1 + chance(2)) + " [data-does=" + ["card", "key", "relay"][chance(3)] + "]"); }
+    if (kind < 2) {
+      const which = chance(2), does = ["card", "key", "relay"][chance(3)];
+      click(does === "relay" && !orders[which] ? "#step" : `#reader-${which + 1} [data-does=${does}]`);
+    }
     else if (kind < 3 && chance(3) === 0) { click("#reader-" + (1 + chance(2)) + " [data-does=busy]"); }
     else if (front.length && kind < 8) { lane(front[chance(front.length)]); click("#menu [data-what=" + ["drop", "damage", "repeat", "deliver"][chance(4)] + "]"); }
     else { click("#step"); }
@@ -132,7 +146,7 @@ def judge_schedules(program, folder, page):
 def judge_chance(program, folder, page):
     happened = dict.fromkeys(NAMES, 0)
     for seed in (1, 2, 3):
-        clicked = Clicked(folder, page, ["random"] * 700, seed)
+        clicked = Clicked(folder, page, ["random"] * 1200, seed)
         tell(f"chance {seed}: failed", "", clicked.failed)
         wanted = account(program, clicked.schedule + "\n")
         tell(f"chance {seed}: the account", wanted, clicked.account())

@@ -103,7 +103,7 @@ abbrev pub Shares : List Order → List Ended → List Command → Type 0
 Shares [] told back = (told ≡ []) × (back ≡ [])
 Shares (o ∷ os) told back =
     ((rest : List Ended) × (told ≡ ended_of o ∷ rest) × Shares os rest back)
-    ⊎ ((rest : List Command) × (back ≡ o.command ∷ rest) × Shares os told rest)
+    ⊎ ((others : List Command) × (back ≡ o.command ∷ others) × Shares os told others)
 
 -- Of an entry, whose orders are these: the accepted ones have the numbers from that on with which the entry was added. The first of them have ended, each by one report, with
 -- its number and its command, or by one `withdraw`. The others are the one that is on its way, if one is, and those that wait, in this order, and the moments in the queue are
