@@ -206,7 +206,10 @@ def serve(words, console, osdp):
     try:
         from .serve.start import serve as serves
     except ModuleNotFoundError:
-        raise Stop("the service isn't there: call  sudo apt-get install osdp-service", NO_PROGRAM) from None
+        raise Stop(
+            "the service isn't there: call  sudo apt install ./osdp-service_*.deb  where the packages are",
+            NO_PROGRAM,
+        ) from None
     return serves(words, console, osdp, moment)
 
 
