@@ -93,7 +93,7 @@ class Place:
     """The line, the broker and the service of it."""
 
     def __init__(self, osdp, work):
-        self.osdp, self.work, self.port = osdp, work, broker.Building.free_port()
+        self.osdp, self.work, self.port, self.started = osdp, work, broker.Building.free_port(), []
         certified(work)
         (work / "acl").write_text((TOP / "release/service/acl").read_text())
         (work / "mosquitto.conf").write_text(f"listener {self.port} 127.0.0.1\ncafile {work}/broker.pem\ncertfile {work}/broker.pem\nkeyfile {work}/broker.key\nallow_anonymous false\n"
@@ -106,7 +106,9 @@ class Place:
 
     def starts(self, words, name, **more):
         with open(self.work / f"{name}.log", "ab") as log:
-            return subprocess.Popen([str(word) for word in words], stdout=log, stderr=log, **{"stdin": subprocess.DEVNULL, **more})
+            started = subprocess.Popen([str(word) for word in words], stdout=log, stderr=log, **{"stdin": subprocess.DEVNULL, **more})
+        self.started.append(started)
+        return started
 
     def configures(self, name, user, ca="broker.pem", password="osdp-north"):
         work = self.work
@@ -136,7 +138,7 @@ class Place:
         return sum(line.startswith(f"acted {address} ") and line.endswith(f" {text}") for line in path.read_text().splitlines())
 
     def ends(self):
-        for process in (self.broker, self.line):
+        for process in self.started:
             process.kill()
             process.wait()
 
