@@ -9,7 +9,7 @@ ghost use Rattle.osdp_controller.specs.States.{is_closed};
 ghost use Rattle.osdp_panel.specs.Deadlines.{IsDeadline};
 ghost use Rattle.osdp_panel.specs.Giving.{after_give, after_withdraw, give_refusal};
 ghost use Rattle.osdp_panel.specs.Orders.{orders_at};
-ghost use Rattle.osdp_panel.specs.Panels.{AddEnds, NewEnds, panel_over};
+ghost use Rattle.osdp_panel.specs.Panels.{AddEnds, NewEnds, panel_config, panel_over};
 ghost use Rattle.osdp_panel.specs.Sending.{after_hear, after_seen_silent, after_tick, after_write, sent_at, written};
 ghost use Rattle.osdp_panel.specs.Telling.{after_settle, tells};
 
@@ -69,26 +69,32 @@ impl Panel {
     pub fn new(alloc: Global, config: BusConfig) -> Result<Panel, BusFault>
         ensures { NewEnds config result }
     {
-        let mut config = config;
-        config.poll_between_orders = true;
-        let bus = Bus::new(alloc, config)?;
+        let bus = Bus::new(alloc, Panel::config(config))?;
         let Ok(lists) = OrderLists::new(alloc) else {
             return Err(BusFault::NoMemory);
         };
-        Ok(Panel::over(alloc, bus, lists, config.room.messages))
+        Ok(Panel::over(alloc, bus, lists, config.room.messages + 1))
     }
 
-    /// A panel over a bus without devices, which lets a POLL stand between any two orders of a device, with room for so many waiting orders of each. It can't fail: so who
+    /// The settings of a panel's bus: a POLL stands between any two orders of a device.
+    pub fn config(config: BusConfig) -> BusConfig
+        ensures { result ≡ panel_config config }
+    {
+        let mut config = config;
+        config.poll_between_orders = true;
+        config
+    }
+
+    /// A panel over a bus without devices, which lets a POLL stand between any two orders of a device, of each of which so many orders may have no end yet. It can't fail: so who
     /// puts a panel into a place of his own copies none. `Panel::new` does for all others.
-    pub fn over(alloc: Global, bus: Bus, lists: OrderLists, messages: usize) -> Panel
-        requires { messages + 1 < 2 ^ 64 }
-        ensures { result ≡ panel_over bus.now lists.now messages }
+    pub fn over(alloc: Global, bus: Bus, lists: OrderLists, places: usize) -> Panel
+        ensures { result ≡ panel_over bus lists places }
     {
         Panel {
             alloc,
             bus,
             orders: lists.orders,
-            places: messages + 1,
+            places,
             told: 0,
             polled: 0,
             brought: false,
