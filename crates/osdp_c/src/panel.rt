@@ -19,7 +19,7 @@ use osdp_c_values::{
     ReportStruct, Status,
 };
 use osdp_msg::Spelling;
-use osdp_panel::{BusConfig, BusFault, EntryNumber, Panel, Turn};
+use osdp_panel::{Bus, BusConfig, BusFault, EntryNumber, OrderLists, Panel, Turn};
 use std::alloc::Global;
 
 /// Writes the default settings: those of a panel with a CRC, and room for 64 commands.
@@ -31,7 +31,7 @@ pub extern "C" fn osdp_panel_defaults(settings: &mut PanelSettings)
     settings.set_defaults();
 }
 
-/// A panel on the heap, which has seen no moment. It is put there without `?`, which would copy it on the stack.
+/// A panel on the heap, which has seen no moment. All memory beside it is asked for before, and nothing is handed on by `?`, which would copy the panel on the stack.
 fn new_machine(
     alloc: Global,
     settings: &PanelSettings,
@@ -46,9 +46,16 @@ fn new_machine(
     };
     let clock = Clock::new(settings.clock_limit());
     let turn = Turn::new();
-    match Panel::new(alloc, config) {
-        Ok(panel) => match Box::new(alloc, PanelMachine { panel, clock, turn }) {
-            Ok(machine) => Ok(machine),
+    let lists = OrderLists::new(alloc);
+    match Bus::new(alloc, Panel::config(config)) {
+        Ok(bus) => match lists {
+            Ok(lists) => {
+                let panel = Panel::over(alloc, bus, lists, config.room.messages + 1);
+                match Box::new(alloc, PanelMachine { panel, clock, turn }) {
+                    Ok(machine) => Ok(machine),
+                    Err(_) => Err(BusFault::NoMemory),
+                }
+            }
             Err(_) => Err(BusFault::NoMemory),
         },
         Err(fault) => Err(fault),

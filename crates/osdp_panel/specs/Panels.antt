@@ -12,18 +12,22 @@ use Rattle.osdp_panel.specs.Orders.{Orders, PanelState}
 abbrev pub panel_config : BusConfig → BusConfig
 panel_config config = record config { poll_between_orders = true }
 
--- a bus without devices. Of an entry there may be one order on its way beside those that wait
-abbrev pub new_panel : BusConfig → PanelState
-new_panel config = record {
-  bus = new_bus (panel_config config);
-  orders = [];
-  places = config.room.messages + 1;
+-- a panel over a bus, with lists of its devices' orders, and how many orders of each device may have no end yet
+abbrev pub panel_over : BusState → List Orders → ℕ → PanelState
+panel_over bus orders places = record {
+  bus = bus;
+  orders = orders;
+  places = places;
   told = 0;
   polled = 0;
   brought = false;
   withheld = false;
   last = None;
 }
+
+-- a bus without devices. Of an entry there may be one order on its way beside those that wait
+abbrev pub new_panel : BusConfig → PanelState
+new_panel config = panel_over (new_bus (panel_config config)) [] (config.room.messages + 1)
 
 -- the settings are judged before memory is asked for
 abbrev pub NewEnds : BusConfig → Result PanelState BusFault → Type 0

@@ -37,6 +37,7 @@
 mod expiry;
 mod fault;
 mod kept;
+mod lists;
 mod orders;
 mod panel;
 mod report;
@@ -45,6 +46,7 @@ mod unsent;
 
 pub use fault::PanelFault;
 pub use kept::KeptPanelReport;
+pub use lists::OrderLists;
 pub use osdp_bus::{Bus, BusConfig, BusFault, EntryNumber};
 pub use osdp_controller::{LostCause, Report};
 pub use osdp_frame::{Address, Burst, CheckKind};

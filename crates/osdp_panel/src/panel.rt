@@ -9,13 +9,14 @@ ghost use Rattle.osdp_controller.specs.States.{is_closed};
 ghost use Rattle.osdp_panel.specs.Deadlines.{IsDeadline};
 ghost use Rattle.osdp_panel.specs.Giving.{after_give, after_withdraw, give_refusal};
 ghost use Rattle.osdp_panel.specs.Orders.{orders_at};
-ghost use Rattle.osdp_panel.specs.Panels.{AddEnds, NewEnds};
+ghost use Rattle.osdp_panel.specs.Panels.{AddEnds, NewEnds, panel_config, panel_over};
 ghost use Rattle.osdp_panel.specs.Sending.{after_hear, after_seen_silent, after_tick, after_write, sent_at, written};
 ghost use Rattle.osdp_panel.specs.Telling.{after_settle, tells};
 
 use crate::expiry::{earlier, first_expiry};
 use crate::fault::PanelFault;
 use crate::kept::KeptPanelReport;
+use crate::lists::OrderLists;
 use crate::orders::Orders;
 use crate::report::PanelReport;
 use crate::unsent::{Turn, Unsent};
@@ -24,9 +25,6 @@ use osdp_frame::{Address, MAX_PACKET};
 use osdp_msg::Command;
 use std::alloc::Global;
 use std::marker::Model;
-
-/// How many devices there may be.
-const MOST_DEVICES: usize = 16;
 
 /// A panel of a line with up to sixteen devices.
 ///
@@ -71,23 +69,38 @@ impl Panel {
     pub fn new(alloc: Global, config: BusConfig) -> Result<Panel, BusFault>
         ensures { NewEnds config result }
     {
-        let mut config = config;
-        config.poll_between_orders = true;
-        let bus = Bus::new(alloc, config)?;
-        let Ok(orders) = Vec::with_capacity(alloc, MOST_DEVICES) else {
+        let bus = Bus::new(alloc, Panel::config(config))?;
+        let Ok(lists) = OrderLists::new(alloc) else {
             return Err(BusFault::NoMemory);
         };
-        Ok(Panel {
+        Ok(Panel::over(alloc, bus, lists, config.room.messages + 1))
+    }
+
+    /// The settings of a panel's bus: a POLL stands between any two orders of a device.
+    pub fn config(config: BusConfig) -> BusConfig
+        ensures { result ≡ panel_config config }
+    {
+        let mut config = config;
+        config.poll_between_orders = true;
+        config
+    }
+
+    /// A panel over a bus without devices, which lets a POLL stand between any two orders of a device, of each of which so many orders may have no end yet. It can't fail: so who
+    /// puts a panel into a place of his own copies none. `Panel::new` does for all others.
+    pub fn over(alloc: Global, bus: Bus, lists: OrderLists, places: usize) -> Panel
+        ensures { result ≡ panel_over bus lists places }
+    {
+        Panel {
             alloc,
             bus,
-            orders,
-            places: config.room.messages + 1,
+            orders: lists.orders,
+            places,
             told: 0,
             polled: 0,
             brought: false,
             withheld: false,
             last: None,
-        })
+        }
     }
 
     /// Adds a device at an address, whose session is closed, and tells its entry. Its first order has this number: 0 for a device that never had one, and after a
