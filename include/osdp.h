@@ -34,8 +34,8 @@
  *             memory. `osdp_monitor_new` takes 26,336 bytes in three blocks. The calls by which a monitor hears take 2,928 bytes for each
  *             address, and its text. A call for which there is no memory is refused. Then nothing has changed, except that a monitor
  *             stops. docs/SIZES.md has all of these numbers.
- * Stack.      Each call takes at most 4 KiB of stack, except that `osdp_monitor_bytes` takes at most 5, `osdp_monitor_new` at most 6,
- *             and `osdp_panel_new` at most 22. What a heap over malloc takes of the stack is counted in. This was measured and counted on
+ * Stack.      Each call takes at most 4 KiB of stack, except that `osdp_monitor_bytes` takes at most 5, and `osdp_panel_new` and
+ *             `osdp_monitor_new` at most 8. What a heap over malloc takes of the stack is counted in. This was measured and counted on
  *             64-bit x86, in a program that is linked with `-z now`. One that binds calls of the C library late takes some 3 KiB more
  *             at the first of each.
  * Targets.    The archive is built for 64-bit x86 and ARM. For 32-bit ARM, RISC-V, x86 and WebAssembly, and for 64-bit ARM,

@@ -102,20 +102,20 @@ build session_checked "${session[@]}" c/heap_malloc.c "${counted[@]}" "$archive"
 # the session needs no more than 64 KiB of stack for the whole program
 (ulimit -s 64 && passes "$work/session_malloc") || fail "the session needs more stack"
 
-# what the calls take of the stack, by the sum of their deepest chain of functions (`bench/stack.py`): they keep to 4,096 bytes, but those that make a panel to
-# 21,500, and the one that makes a monitor to 5,500 (docs/SIZES.md)
+# what the calls take of the stack, by the sum of their deepest chain of functions (`bench/stack.py`): they keep to 4,096 bytes, but the one that
+# makes a monitor to 5,500 (docs/SIZES.md)
 passes python3 bench/stack.py &&
   { awk '
-      BEGIN { most["osdp_panel_new"] = 21500; most["osdp_panel_new_with_room"] = 21500; most["osdp_monitor_new"] = 5500 }
+      BEGIN { most["osdp_monitor_new"] = 5500 }
       { calls += 1 }
       $2 > ($1 in most ? most[$1] : 4096) { print; more = 1 }
       END { exit more || calls < 80 }' "$work/said" || fail "a call takes more stack than it may"; }
-# .. and as `bench/exchange` measures it, with what the heap takes: the one that makes a panel keeps to 25,000, the one that makes a monitor to 6,000, and what a
+# .. and as `bench/exchange` measures it, with what the heap takes: the one that makes a panel keeps to 7,500, the one that makes a monitor to 6,000, and what a
 # monitor hears to 4,500
 build exchange bench/exchange.c c/heap_malloc.c "$archive" && passes "$work/exchange" &&
   { sed 's/^stack of //; s/ bytes, wanted.*//' "$work/said" | awk '
       BEGIN {
-        most["osdp_panel_new and add"] = 25000
+        most["osdp_panel_new and add"] = 7500
         most["osdp_monitor_new"] = 6000; most["osdp_monitor_bytes"] = 4500
       }
       { taken = $NF; sub(/ +[0-9]+$/, ""); if (taken > ($0 in most ? most[$0] : 4096)) { print; more = 1 } }
