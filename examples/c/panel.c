@@ -89,11 +89,11 @@ static void take_reports(void)
     }
 }
 
-/* Hands the panel the orders that have come. */
-static void take_orders(struct lines *lines, uint64_t now)
+/* Hands the panel the orders that have come. Each is as old as it may be. */
+static void take_orders(struct lines *lines)
 {
     for (const char *line = next_line(lines); line != NULL; line = next_line(lines)) {
-        order(&panel, rate, line, now);
+        order(&panel, rate, line, lines->since);
     }
 }
 
@@ -192,7 +192,7 @@ static void turn(struct lines *lines)
     (void)osdp_panel_set_moment(&panel, now); /* the line's panel too while the other one speaks: in this turn it may begin sessions again */
     take_found(now);
     take_reports();
-    take_orders(lines, now);
+    take_orders(lines);
     if (searching() == NULL) {
         begin_search(rate, now, is_idle(count, now));
     }

@@ -255,8 +255,8 @@ bool write_all(int port, const struct osdp_burst *burst, uint64_t since)
     return true;
 }
 
-/* Takes a piece of standard input to what is held of it, with a place left for the end of the last line. A line that doesn't fit is dropped. */
-static void read_lines(struct lines *lines)
+/* Takes a piece of standard input to what is held of it, with a place left for the end of the last line. A line that doesn't fit is dropped. Whether that was all that is there. */
+static bool read_lines(struct lines *lines)
 {
     lines->length -= lines->start;
     memmove(lines->held, lines->held + lines->start, lines->length);
@@ -265,15 +265,17 @@ static void read_lines(struct lines *lines)
         lines->length = 0;
         lines->skips = true;
     }
-    ssize_t count = read(STDIN_FILENO, lines->held + lines->length, sizeof lines->held - lines->length - 1);
+    size_t room = sizeof lines->held - lines->length - 1;
+    ssize_t count = read(STDIN_FILENO, lines->held + lines->length, room);
     if (count < 0 && (errno == EINTR || errno == EAGAIN)) {
-        return; /* another program that has the same terminal has read first */
+        return false; /* another program that has the same terminal has read first */
     }
     lines->ended = count <= 0;
     lines->length += count > 0 ? (size_t)count : 0;
     if (lines->ended && (lines->length > 0 || lines->skips)) {
         lines->held[lines->length++] = '\n';
     }
+    return count < (ssize_t)room;
 }
 
 static bool stood_still; /* whether the program did when the last read ended */
@@ -298,11 +300,11 @@ static void drop_all(int port)
     }
 }
 
-/* Waits for a read, and takes the moment after it. What takes too long is either the turn since the last wait, or this wait. */
-static int wait_to_read(struct pollfd *ready, uint64_t wait, uint64_t *now)
+/* Waits for a read, and takes the moments before and after it. What takes too long is either the turn since the last wait, or this wait. */
+static int wait_to_read(struct pollfd *ready, uint64_t wait, uint64_t *before, uint64_t *now)
 {
     static uint64_t last; /* when the last wait ended */
-    uint64_t began = moment();
+    uint64_t began = *before = moment();
     last = last != 0 ? last : began;
     int found = wait_for(ready, 2, wait);
     *now = moment();
@@ -338,9 +340,13 @@ size_t read_port(int port, struct lines *lines, uint64_t wait, uint8_t *bytes, s
 {
     struct pollfd ready[] = { { port, POLLIN, 0 }, { lines->ended ? -1 : STDIN_FILENO, POLLIN, 0 } };
     size_t count = 0;
-    int found = wait_to_read(ready, wait < 60000 ? wait : 60000, now);
-    if (found > 0 && ready[1].revents != 0) {
-        read_lines(lines);
+    uint64_t began;
+    int found = wait_to_read(ready, wait < 60000 ? wait : 60000, &began, now);
+    lines->since = lines->empty != 0 ? lines->empty : began;
+    if (found <= 0 || ready[1].revents == 0) {
+        lines->empty = began; /* nothing was there as the wait ended */
+    } else if (read_lines(lines)) {
+        lines->empty = *now;
     }
     if (found > 0 && ready[0].revents != 0) {
         count = read_all(port, bytes, room);

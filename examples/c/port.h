@@ -9,6 +9,8 @@ struct lines {
     char held[8194];
     size_t length, start;
     bool ended, skips;
+    uint64_t since; /* none of the lines that the last read left was typed before this moment */
+    uint64_t empty; /* a moment after which all was typed that isn't read yet; 0 before the first read */
 };
 
 /* Milliseconds of a clock that never goes backwards, and goes on while the computer sleeps. */

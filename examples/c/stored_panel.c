@@ -243,8 +243,8 @@ static bool is_command(const char *text, const char *name)
     return strncmp(text, name, length) == 0 && (text[length] == '\0' || text[length] == ' ');
 }
 
-/* Takes a line as an order. */
-static void take_line(const char *line, uint64_t now)
+/* Takes a line as an order. It was typed at this moment, or later. */
+static void take_line(const char *line, uint64_t since, uint64_t now)
 {
     line += strspn(line, " ");
     if (was_stopped()) {
@@ -252,7 +252,7 @@ static void take_line(const char *line, uint64_t now)
     } else if (line[0] == '\0' || is_command(line, "OSTAT") || (is_command(line, "COMSET") && !move(line, now))) {
         say("refused line\n");
     } else if (!is_command(line, "COMSET")) {
-        (void)give(line, now, now + late_by());
+        (void)give(line, now, since + late_by());
     }
 }
 
@@ -299,7 +299,7 @@ static void turn(struct lines *lines)
     (void)osdp_panel_bytes(&panel, bytes, length, now);
     take_reports(now);
     for (const char *line = next_line(lines); line != NULL; line = next_line(lines)) {
-        take_line(line, now);
+        take_line(line, lines->since, now);
     }
     begin(now);
     (void)osdp_panel_tick(&panel, now, &sends);
