@@ -31,7 +31,9 @@ TOP = Path(__file__).resolve().parent.parent
 sys.dont_write_bytecode = True
 FORM = jsonschema.Draft202012Validator(json.loads((TOP / "docs/broker.schema.json").read_text()))
 # a fault by which it is found that a rule is left out
-FOUND = {"dedupe": "^the relay of .* moved [2-9] times$", "expiry": "^the relay of .* after its time$", "store": "^the relay of .* moved [2-9] times$"}
+FOUND = {"dedupe": "^the relay of .* moved [2-9] times$", "expiry": "^the relay of .* after its time$", "store": "^the relay of .* moved [2-9] times$",
+         "moment": "^the relay of .* after its time$"}
+TRIES = 4  # so often a disk stops: that is seen where the order goes out in the turn that stores it, so most times of four, and not always
 AGAIN = 15.0  # for so many seconds it is looked whether a relay moves once more
 OVERLAP = 0.003  # how likely something fails at a look though something is not online yet
 OLDEST = 30  # from which age on a card is late, in seconds
@@ -254,11 +256,21 @@ class Building:
         self.waits(self.are_online, SETTLES)
         self.again(key)
 
+    def moment(self):
+        """A disk stops as an order is stored, for longer than the order has time, and for less than a device waits for its panel."""
+        for _ in range(TRIES):
+            self.disk["north"].fails("stopped", 10 ** 6)
+            key = self.orders("north", 0, 5)
+            self.waits(lambda: moment() > key.time + DEVICE_LATE + 500, SETTLES)
+            self.disk["north"].heals()
+            self.waits(key.is_over, SETTLES)
+            self.waits(self.are_online, SETTLES)
+
     def tries_rules(self, *rules):
         """What breaks a rule that is left out."""
         self.begins()
         for rule in rules:
-            {"dedupe": self.dedupe, "expiry": self.expiry, "store": self.store}[rule]()
+            {"dedupe": self.dedupe, "expiry": self.expiry, "store": self.store, "moment": self.moment}[rule]()
         return True
 
     def goes(self):
