@@ -1,7 +1,8 @@
 """A broker, two lines and their services, of which nothing stays: `broker.py OSDP [--seed N] [--orders N] [--cards N] [--longest S] [--wrong RULE | --rules]`.
 
 Each line has three devices of ours on a pseudo terminal (`broker_line.py`). A sender gives orders by keys and repeats each message until it has the outcome; cards are held to the
-devices. Meanwhile broker, services, lines, devices and terminals are killed, stopped for 3 to S seconds, or taken away, and disks are full, at random by the seed.
+devices. Meanwhile broker, services, their `osdp panel`, lines, devices and terminals are killed, stopped for 3 to S seconds, or taken away, at random by the seed; and the disks of the
+stores are full, or for 3 to S seconds no sync of one ends, or none may be written (`broker_faults.py`).
 
 At the end: each key that was accepted has one outcome, and another one never moved a relay; no relay moved twice for a key, nor after its time; what was settled was done, and what
 expired, was refused or forgotten wasn't; no event is missing but the last ones of a device that lost power; only a marked one comes twice; numbers have no gap.
@@ -23,19 +24,20 @@ from pathlib import Path
 
 import jsonschema
 
-from broker_programs import Client, Key, Process, moment
+from broker_faults import Disk, faults_of
+from broker_programs import DEVICES, LINES, Client, Key, Process, moment
 
 TOP = Path(__file__).resolve().parent.parent
 sys.dont_write_bytecode = True
 FORM = jsonschema.Draft202012Validator(json.loads((TOP / "docs/broker.schema.json").read_text()))
 # a fault by which it is found that a rule is left out
-FOUND = {"dedupe": "^the relay of .* moved [2-9] times$", "expiry": "^the relay of .* after its time$", "store": "^the relay of .* moved [2-9] times$"}
-LINES, DEVICES = ("north", "south"), 3
+FOUND = {"dedupe": "^the relay of .* moved [2-9] times$", "expiry": "^the relay of .* after its time$", "store": "^the relay of .* moved [2-9] times$",
+         "moment": "^the relay of .* after its time$"}
+TRIES = 4  # so often a disk stops: that is seen where the order goes out in the turn that stores it, so most times of four, and not always
 AGAIN = 15.0  # for so many seconds it is looked whether a relay moves once more
 OVERLAP = 0.003  # how likely something fails at a look though something is not online yet
 OLDEST = 30  # from which age on a card is late, in seconds
 DEVICE_LATE = 1000  # so late our devices may act, in milliseconds
-KINDS = ("kills broker", "stops broker", "kills service", "ends service", "stops service", "kills line", "stops line", "restarts", "pulls", "fills")
 SETTLES = 60.0  # so many seconds all has to come to its end once nothing fails any more
 END_OF_KEY = 4000  # so many milliseconds after its time a key that isn't known stays so
 
@@ -47,14 +49,14 @@ class Building:
         self.words, self.work, self.random = words, work, random.Random(words.seed)
         self.faults, self.keys, self.wrong, self.shown = [], {}, {}, 0
         self.events, self.rejected, self.did = defaultdict(dict), Counter(), Counter()
-        self.full_until, self.online, self.is_at_end = {}, {}, False
+        self.online, self.is_at_end = {}, False
         self.twice = self.marked_count = self.thrown = self.told = 0
         self.latest = -10 ** 9  # how late a relay moved after its time, at most, in milliseconds
         self.port = self.free_port()
         (work / "broker.conf").write_text(f"listener {self.port} 127.0.0.1\nallow_anonymous true\npersistence true\npersistence_location {work}/\nautosave_interval 1\n"
                                           "max_queued_messages 100000\n")
         self.broker = Process(lambda: self.starts("broker", ["mosquitto", "-c", work / "broker.conf"]))
-        self.line, self.service = {}, {}
+        self.line, self.service, self.disk = {}, {}, {}
         for name in LINES:
             self.prepares(name)
         self.client = Client(self.port)
@@ -73,13 +75,14 @@ class Building:
         """The configuration, the store and the programs of a line."""
         folder, work = self.work / name, self.work
         folder.mkdir()
+        self.disk[name] = Disk(folder)
         names = "\n".join(f"door-{at + 1} = {5 + at}" for at in range(DEVICES))
         (work / f"{name}.toml").write_text(f"version = 1\nline = \"{name}\"\nport = \"{work}/{name}.port\"\nstore = \"{folder}/store\"\n[devices]\n{names}\n[broker]\nport = {self.port}\n"
                                            f"[events]\noldest = {OLDEST}\n")
         script = TOP / "tests/broker_wrong.py" if self.words.wrong else TOP / "port/osdp-port"
         program = ["/usr/bin/python3", "-B", script, *([self.words.wrong] if self.words.wrong else []), "--osdp", self.words.osdp, "--config", work / f"{name}.toml", "serve"]
         subprocess.run([str(word) for word in [*program, "--new"]], check=True, stdout=subprocess.DEVNULL)
-        more = {**os.environ, "LD_PRELOAD": str(work / "kills.so"), "STORE_FOLDER": str(folder), "STORE_FULL": str(work / f"{name}.full")}
+        more = {**os.environ, "LD_PRELOAD": str(work / "kills.so"), **self.disk[name].environment()}
         self.line[name] = Process(lambda: self.starts(f"{name}.line", ["/usr/bin/python3", "-B", TOP / "tests/broker_line.py", self.words.osdp, work / f"{name}.port", work / f"{name}.did",
                                                                        DEVICE_LATE, 5], stdin=subprocess.PIPE))
         self.service[name] = Process(lambda: self.starts(f"{name}.service", program, env=more))
@@ -102,40 +105,18 @@ class Building:
         """Something fails, at random."""
         line, pause = self.random.choice(LINES), self.random.randint(200, 2000)
         stop = self.random.randint(3000, 1000 * self.words.longest)
-        kinds = self.words.kinds.split(",") if self.words.kinds else KINDS
+        kinds = faults_of(self, line, pause, stop)
+        names = self.words.kinds.split(",") if self.words.kinds else list(kinds)
         # what a broker that is stopped finds in its sockets is new to it: an order that names no pulse would be late
-        name = self.random.choice([each for each in kinds if not self.words.by_expiry or each != "stops broker"])
+        name = self.random.choice([each for each in names if not self.words.by_expiry or each != "stops broker"])
         self.did[name] += 1
-        if name == "kills broker":
-            self.broker.kills(pause)
-        elif name == "stops broker":
-            self.broker.stops(stop)
-        elif name == "kills service":
-            self.service[line].kills(pause)
-        elif name == "ends service":
-            self.service[line].ends()
-        elif name == "stops service":
-            self.service[line].stops(stop)
-        elif name == "kills line":
-            (self.work / f"{line}.port").unlink(missing_ok=True)  # else another program may get a terminal of that name
-            self.line[line].kills(pause)
-        elif name == "stops line":
-            self.line[line].stops(stop)
-        elif name == "restarts":
-            self.says(line, "restart", self.random.randrange(DEVICES))
-        elif name == "pulls":
-            self.says(line, "pull")
-        else:
-            (self.work / f"{line}.full").touch()
-            self.full_until[line] = moment() + pause
+        kinds[name]()
 
     def looks(self):
         for each in self.all_programs():
             each.looks()
-        for line, until in list(self.full_until.items()):
-            if moment() >= until:
-                (self.work / f"{line}.full").unlink(missing_ok=True)
-                del self.full_until[line]
+        for each in self.disk.values():
+            each.looks()
         self.client.looks()
         for topic, payload, at in self.client.taken():
             self.hears(topic, payload, at)
@@ -144,7 +125,8 @@ class Building:
         """Nothing fails any more."""
         for each in self.all_programs():
             each.goes_on()
-        self.full_until = {line: 0 for line in LINES}
+        for each in self.disk.values():
+            each.heals()
 
     # the sender
 
@@ -274,11 +256,21 @@ class Building:
         self.waits(self.are_online, SETTLES)
         self.again(key)
 
+    def moment(self):
+        """A disk stops as an order is stored, for longer than the order has time, and for less than a device waits for its panel."""
+        for _ in range(TRIES):
+            self.disk["north"].fails("stopped", 10 ** 6)
+            key = self.orders("north", 0, 5)
+            self.waits(lambda: moment() > key.time + DEVICE_LATE + 500, SETTLES)
+            self.disk["north"].heals()
+            self.waits(key.is_over, SETTLES)
+            self.waits(self.are_online, SETTLES)
+
     def tries_rules(self, *rules):
         """What breaks a rule that is left out."""
         self.begins()
         for rule in rules:
-            {"dedupe": self.dedupe, "expiry": self.expiry, "store": self.store}[rule]()
+            {"dedupe": self.dedupe, "expiry": self.expiry, "store": self.store, "moment": self.moment}[rule]()
         return True
 
     def goes(self):

@@ -16,6 +16,7 @@ runs() { timeout 400 /usr/bin/python3 -B "$@" & running+=($!); }
 runs tests/broker_who.py "$program"
 runs tests/broker.py "$program" --seed 1
 runs tests/broker.py "$program" --seed 3 --orders 60 --cards 30 --by-expiry
+runs tests/broker.py "$program" --seed 5 --orders 100 --cards 60 --by-expiry --longest 7 --kinds 'stops disk,locks disk,kills panel'
 runs tests/broker.py "$program" --rules
 for rule in dedupe expiry store; do runs tests/broker.py "$program" --wrong "$rule"; done
 for process in "${running[@]}"; do wait "$process" || failed=1; done

@@ -8,6 +8,8 @@ from paho.mqtt import client as mqtt
 from paho.mqtt.packettypes import PacketTypes
 from paho.mqtt.properties import Properties
 
+LINES, DEVICES = ("north", "south"), 3
+
 
 def moment():
     return int(time.clock_gettime(time.CLOCK_BOOTTIME) * 1000)

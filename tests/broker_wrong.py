@@ -1,8 +1,9 @@
-"""The service of a line with one of its rules left out: `broker_wrong.py dedupe|expiry|store WORDS..`, where WORDS are those of osdp-port. `broker.py --wrong` has to find it.
+"""The service of a line with one of its rules left out: `broker_wrong.py dedupe|expiry|store|moment WORDS..`, where WORDS are those of osdp-port. `broker.py --wrong` has to find it.
 
 - `dedupe`: a key that is known is an order once more.
 - `expiry`: an order may go out for ever.
-- `store`: an order is submitted, and acknowledged, long before it is stored."""
+- `store`: an order is submitted, and acknowledged, long before it is stored.
+- `moment`: the moment of a packet is that of its turn, however long that took to be stored."""
 import os
 import sys
 import time
@@ -12,6 +13,7 @@ TOP = Path(__file__).resolve().parent.parent
 sys.path.insert(0, str(TOP / "port"))
 sys.dont_write_bytecode = True
 
+from osdp_port import panel  # noqa: E402
 from osdp_port.main import main  # noqa: E402
 from osdp_port.serve import ledger, orders  # noqa: E402
 
@@ -48,7 +50,13 @@ def without_store():
     ledger.Ledger.commit = later
 
 
+def without_moment():
+    def writes(self):
+        self.call("write")
+    panel.Panel.writes = writes
+
+
 if __name__ == "__main__":
-    {"dedupe": without_dedupe, "expiry": without_expiry, "store": without_store}[sys.argv[1]]()
+    {"dedupe": without_dedupe, "expiry": without_expiry, "store": without_store, "moment": without_moment}[sys.argv[1]]()
     os.environ.pop("PYTHONPATH", None)
     sys.exit(main(sys.argv[2:]))

@@ -3,7 +3,8 @@
  *
  * STORE_DURABLE names a folder that gets what a loss of power would leave: of a file the bytes that were there at its last sync, by its number, and of the folder
  * the names that it had at its own last sync, in `names`. While the file named by STORE_FULL is there no write succeeds; while that named by STORE_READ_ONLY is there no
- * file is opened to be written, either; and while that named by STORE_SLOW is there each sync takes as many milliseconds longer as STORE_WAIT says. */
+ * file is opened to be written, either. While that named by STORE_SLOW is there each sync takes as many milliseconds longer as STORE_WAIT says, and while that named by
+ * STORE_STOPPED is there none ends. */
 #define _GNU_SOURCE
 #include <dirent.h>
 #include <errno.h>
@@ -115,6 +116,13 @@ static void keeps_names(int folder)
     (void)syscall(SYS_rename, new, path);
 }
 
+static void sleeps(long milliseconds)
+{
+    struct timespec rest = { milliseconds / 1000, milliseconds % 1000 * 1000000 };
+    while (nanosleep(&rest, &rest) != 0) {
+    }
+}
+
 static int syncs(int file, long call)
 {
     struct stat found;
@@ -123,10 +131,10 @@ static int syncs(int file, long call)
     }
     counts_or_ends();
     if (is_there("STORE_SLOW")) {
-        long wait = strtol(getenv("STORE_WAIT"), NULL, 10);
-        struct timespec most = { wait / 1000, wait % 1000 * 1000000 };
-        while (nanosleep(&most, &most) != 0) {
-        }
+        sleeps(strtol(getenv("STORE_WAIT"), NULL, 10));
+    }
+    while (is_there("STORE_STOPPED")) {
+        sleeps(20);
     }
     int status = (int)syscall(call, file);
     if (status == 0 && fstat(file, &found) == 0) {
