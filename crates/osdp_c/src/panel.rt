@@ -31,7 +31,7 @@ pub extern "C" fn osdp_panel_defaults(settings: &mut PanelSettings)
     settings.set_defaults();
 }
 
-/// A panel on the heap, which has seen no moment. All memory beside it is asked for before, and nothing is handed on by `?`, which would copy the panel on the stack.
+/// A panel on the heap, which has seen no moment. It is put together there: nothing is handed on by `?`, which would copy the panel on the stack.
 fn new_machine(
     alloc: Global,
     settings: &PanelSettings,
@@ -46,9 +46,8 @@ fn new_machine(
     };
     let clock = Clock::new(settings.clock_limit());
     let turn = Turn::new();
-    let lists = OrderLists::new(alloc);
     match Bus::new(alloc, Panel::config(config)) {
-        Ok(bus) => match lists {
+        Ok(bus) => match OrderLists::new(alloc) {
             Ok(lists) => {
                 let panel = Panel::over(alloc, bus, lists, config.room.messages + 1);
                 match Box::new(alloc, PanelMachine { panel, clock, turn }) {
