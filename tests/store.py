@@ -15,6 +15,7 @@ it; each card was told, in turn, and each that may enter has made one order; the
 
 Beside that: a disk that is full, one that may only be read, and one that is slow; each device's program, killed at each call while it gets a COMSET; and a store of each program
 that all others read in turn."""
+import contextlib
 import json
 import os
 import random
@@ -105,7 +106,8 @@ class Line:
     def ended(self):
         """The panel has been killed: what is left of its store is that which its kind of end leaves."""
         self.reads()
-        self.process.stdin.close()
+        with contextlib.suppress(BrokenPipeError):
+            self.process.stdin.close()  # a line may be left that it was killed before it read
         said = self.process.stderr.read().decode()
         self.process.stderr.close()
         self.process.stdout.close()
