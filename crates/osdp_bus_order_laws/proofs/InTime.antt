@@ -1,91 +1,19 @@
 -- By when an order has left those that wait: after each order of its entry a POLL begins within the interval and a turn of each entry, where one has to come first, and the next order
 -- within one turn of each entry more.
-use Rattle.osdp_bus_order_laws.proofs.Common.{◌≡◌, ◌∙◌, ap, sym, subst, inl, inr, refl, ℕ, zero, suc, ◌+◌, ◌*◌, ◌≤◌, ◌&&◌, ◌==◌, Bool, true, false, List, [], ◌∷◌, ◌++◌, length, append_assoc, append-nil, Option, Some, None, ◌⊎◌, if◌then◌else◌, is_none, is_some, slice_get, eq-eqb, eqb-true, arith, Ok, Command, State, is_closed, is_under_way, is_idle, exchange_in, lives, next_product, BusConfig, Entry, BusState, device_of, holds, submit_refusal_at, withdrawal_at, withdrawal_of, Call, Submit, Withdraw, after_call, Begins, IsOutstandingAt, stands_after, has_one_exchange, decide, one_device, moments_are_seen, exchange_of, IsAccepted, IsUnderWay, BeginsBy, EndsBy, HasFew, KeepsTurns, NoneBegins, others_of, turns_of, TurnsTake, KeepsTime, same_config, Well, well_call, asked_at, goes_out, accepted_in, given, taken_back_in, waiting_orders, OrderLeavesBy, OrdersLeaveInTime, OrdersLeaveInTurns}
+use Rattle.osdp_bus_order_laws.proofs.Common.{◌≡◌, ◌∙◌, ap, sym, subst, inl, inr, refl, ℕ, zero, suc, ◌+◌, ◌*◌, ◌≤◌, ◌&&◌, Bool, true, false, List, [], ◌∷◌, ◌++◌, length, Option, Some, None, ◌⊎◌, if◌then◌else◌, is_none, is_some, eq-eqb, arith, Command, is_idle, exchange_in, lives, next_product, BusConfig, Entry, BusState, device_of, holds, submit_refusal_at, Call, Submit, after_call, Begins, IsOutstandingAt, stands_after, has_one_exchange, decide, one_device, moments_are_seen, exchange_of, IsUnderWay, EndsBy, HasFew, KeepsTurns, NoneBegins, others_of, turns_of, TurnsTake, KeepsTime, same_config, Well, well_call, goes_out, accepted_in, taken_back_in, waiting_orders, OrderLeavesBy, OrdersLeaveInTime, OrdersLeaveInTurns}
 use Rattle.std.proofs.Math.Nat.{suc-mul}
-use Rattle.std.specs.Option.{option_or}
 use Rattle.osdp_bus.specs.Machine.{entry_withdraws}
-use Rattle.osdp_bus_order_laws.specs.Places.{leaves_in}
 use Rattle.osdp_time_laws.proofs.Orders.{at_rest}
 use Rattle.osdp_bus_time_laws.proofs.Asking.{same_next}
 use Rattle.osdp_bus_time_laws.proofs.InTime.{keeps_turns, same_turns}
 use Rattle.osdp_bus_time_laws.proofs.Ordered.{rest_due}
-use Rattle.osdp_bus_time_laws.proofs.Places.{AtPlace}
 use Rattle.osdp_bus_time_laws.proofs.Sums.{all_turns}
-use Rattle.osdp_bus_time_laws.proofs.Turning.{BeginsWhile, Ready, Stays, begins_then_while, ends_later, has_its_turn, has_its_turn_while, held_before, is_there}
-use Rattle.osdp_bus_order_laws.proofs.Along.{asks_out, decide_at, fresh_out, holding_on, none_out, one_place, out_is, waiting_is}
+use Rattle.osdp_bus_time_laws.proofs.Turning.{BeginsWhile, Stays, begins_then_while, ends_later, has_its_turn, has_its_turn_while, held_before, is_there}
+use Rattle.osdp_bus_order_laws.proofs.Along.{asks_out, decide_at, none_out, out_is, waiting_is}
 use Rattle.osdp_bus_order_laws.proofs.Calls.{Asks, asks, changed_here, goes, listed}
 use Rattle.osdp_bus_order_laws.proofs.Devices.{Ordered, Polled, next, waits}
 use Rattle.osdp_bus_order_laws.proofs.Hearing.{asked}
-
--- ---- the places of those that wait
-
--- none goes out as one is taken back
-one_leaves : (entry : ℕ) (call : Call) (b : BusState) → Well b → (goes_out entry call b ≡ None) ⊎ (taken_back_in entry call b ≡ None)
-one_leaves entry (Withdraw at) b well = inl (by_device (device_of entry b) refl)
-  where
-    by_device : (o : Option Entry) → device_of entry b ≡ o → goes_out entry (Withdraw at) b ≡ None
-    by_device None none = fresh_out entry (Withdraw at) b none
-    by_device (Some d) there =
-        let k = goes entry d b there (Withdraw at) well.sound (λ begun. let is = begun.tick in cc) in
-        out_is entry (Withdraw at) d k.device b there k.there ∙ none_out d k.device k.keeps
-one_leaves entry _ b well = inr refl
-
-listed_leaves : (a b : Option Command) → (a ≡ None) ⊎ (b ≡ None) → listed a ++ listed b ≡ listed (option_or a b)
-listed_leaves None b h = refl
-listed_leaves (Some c) None h = refl
-listed_leaves (Some c) (Some d) (inl none) = absurd cc
-listed_leaves (Some c) (Some d) (inr none) = absurd cc
-
-none_first : (a b : Option Command) → option_or a b ≡ None → a ≡ None
-none_first None b none = refl
-none_first (Some c) b none = absurd cc
-
--- those that wait, with so many before the order
-abbrev Waits : ℕ → List Command → Command → List Command → BusState → Type 0
-Waits entry ahead command later b = waiting_orders entry b ≡ ahead ++ command ∷ later
-
-module _ (entry : ℕ) (call : Call) (b : BusState) (well : Well b) (ahead later : List Command) (command : Command) (waiting : Waits entry ahead command later b) where
-  abbrev come : List Command
-  come = later ++ listed (accepted_in entry call b)
-
-  placed : listed (leaves_in entry call b) ++ waiting_orders entry (after_call call b) ≡ ahead ++ command ∷ come
-  placed =
-      sym (ap (λ l. l ++ waiting_orders entry (after_call call b))
-      (listed_leaves (goes_out entry call b) (taken_back_in entry call b) (one_leaves entry call b well)))
-      ∙ one_place entry call b well
-      ∙ ap (λ l. l ++ listed (accepted_in entry call b)) waiting
-      ∙ append_assoc ahead (command ∷ later) (listed (accepted_in entry call b))
-
-  stays_placed : leaves_in entry call b ≡ None → Waits entry ahead command come (after_call call b)
-  stays_placed nothing = sym (ap (λ o. listed o ++ waiting_orders entry (after_call call b)) nothing) ∙ placed
-
-  gone : (sent : Command) → leaves_in entry call b ≡ Some sent → sent ∷ waiting_orders entry (after_call call b) ≡ ahead ++ command ∷ come
-  gone sent is = sym (ap (λ o. listed o ++ waiting_orders entry (after_call call b)) is) ∙ placed
-
-  is_first : (sent : Command) → length ahead ≡ 0 → leaves_in entry call b ≡ Some sent → sent ≡ command
-  is_first sent empty is = by_ahead ahead empty (gone sent is)
-    where
-      by_ahead : (ahead : List Command) → length ahead ≡ 0 → sent ∷ waiting_orders entry (after_call call b) ≡ ahead ++ command ∷ come → sent ≡ command
-      by_ahead [] none is = cc
-      by_ahead (a ∷ ahead) none is = absurd cc
-
-  -- one fewer is before it
-  record Fewer (before : ℕ) : Type 0 where
-    sooner : List Command
-    many : length sooner ≡ before
-    fewer : Waits entry sooner command come (after_call call b)
-
-  is_next : (before : ℕ) (sent : Command) → length ahead ≡ suc before → leaves_in entry call b ≡ Some sent → Fewer before
-  is_next before sent many is = by_ahead ahead many (gone sent is)
-    where
-      by_ahead : (ahead : List Command) → length ahead ≡ suc before → sent ∷ waiting_orders entry (after_call call b) ≡ ahead ++ command ∷ come → Fewer before
-      by_ahead [] many is = absurd cc
-      by_ahead (a ∷ ahead) many is = record { sooner = ahead; many = cc; fewer = cc }
-
-some_wait : (ahead : List Command) (command : Command) (later w : List Command) → w ≡ ahead ++ command ∷ later → 1 ≤ length w
-some_wait [] command later w is = let many : length w ≡ suc (length later) = ap (λ (l : List Command). length l) is in omega arith
-some_wait (a ∷ ahead) command later w is =
-    let many : length w ≡ suc (length (ahead ++ command ∷ later)) = ap (λ (l : List Command). length l) is in omega arith
+use Rattle.osdp_bus_order_laws.proofs.Leaving.{Waits, come, is_first, is_next, none_first, some_wait, stays_placed}
 
 -- ---- its moments
 

@@ -5,6 +5,7 @@ pub mod Calls
 pub mod Counting
 pub mod Along
 pub mod Flags
+mod Leaving
 pub mod InTime
 pub mod SlowOrder
 pub mod Ending

@@ -383,8 +383,8 @@ module _ (k : ℕ) (t : Tally) (b c : BusState) (os : List Orders) (told places 
       by_orders (Some o) at = (o, at)
       by_orders None at =
           let f = front_of t.accepted told_list back c' rest (moments_at k os) s in
-          let some : t.accepted ≡ (s.ended ++ f.order ∷ []) ++ f.behind =
+          let some : t.accepted ≡ (s.ended ++ f.order ∷ []) ++ f.later =
           Rattle.osdp_panel_laws.proofs.Tallies.whole_is t.accepted told_list back c' rest (moments_at k os) s f in
-          let size : length t.accepted ≡ length ((s.ended ++ f.order ∷ []) ++ f.behind) = ap length some in
+          let size : length t.accepted ≡ length ((s.ended ++ f.order ∷ []) ++ f.later) = ap length some in
           let none : length t.accepted ≡ 0 = ap length (is.none at) in
-          absurd (omega (arith, size, none, length-append (s.ended ++ f.order ∷ []) f.behind, length-append s.ended (f.order ∷ [])))
+          absurd (omega (arith, size, none, length-append (s.ended ++ f.order ∷ []) f.later, length-append s.ended (f.order ∷ [])))

@@ -83,14 +83,14 @@ module _ (accepted : List Order) (told : List Ended) (back pending : List Comman
 
 -- the front order ends
 module _ (accepted : List Order) (told : List Ended) (back : List Command) (c : Command) (rest : List Command) (moments : List ℕ) where
-  -- the front order, and those behind it
+  -- the front order, and those after it
   pub record Front (s : Stands accepted told back (c ∷ rest) moments) : Type 0 where
     pub order : Order
-    pub behind : List Order
-    pub still : s.still ≡ order ∷ behind
+    pub later : List Order
+    pub still : s.still ≡ order ∷ later
     pub command : order.command ≡ c
-    pub ahead : commands behind ≡ rest
-    pub until : moments ≡ order.until ∷ untils behind
+    pub ahead : commands later ≡ rest
+    pub until : moments ≡ order.until ∷ untils later
 
   pub front_of : (s : Stands accepted told back (c ∷ rest) moments) → Front s
   front_of s = by_still s.still refl
@@ -99,23 +99,23 @@ module _ (accepted : List Order) (told : List Ended) (back : List Command) (c : 
       by_still [] is = absurd (let e : [] ≡ c ∷ rest = sym (ap commands is) ∙ s.ahead in cc)
       by_still (o ∷ os) is =
           let e : o.command ∷ commands os ≡ c ∷ rest = sym (ap commands is) ∙ s.ahead in
-          record { order = o; behind = os; still = is; command = cc; ahead = cc; until = sym s.until ∙ ap untils is }
+          record { order = o; later = os; still = is; command = cc; ahead = cc; until = sym s.until ∙ ap untils is }
 
   module _ (s : Stands accepted told back (c ∷ rest) moments) (f : Front s) where
-    pub whole_is : accepted ≡ (s.ended ++ f.order ∷ []) ++ f.behind
-    whole_is = s.whole ∙ ap (λ l. s.ended ++ l) f.still ∙ sym (append_assoc s.ended (f.order ∷ []) f.behind)
+    pub whole_is : accepted ≡ (s.ended ++ f.order ∷ []) ++ f.later
+    whole_is = s.whole ∙ ap (λ l. s.ended ++ l) f.still ∙ sym (append_assoc s.ended (f.order ∷ []) f.later)
 
-    kept_is : untils f.behind ≡ keep_last (length rest) moments
+    kept_is : untils f.later ≡ keep_last (length rest) moments
     kept_is =
-        let same : length (untils f.behind) ≡ length rest =
-        map_length (λ (o : Order). o.until) f.behind ∙ sym (map_length (λ (o : Order). o.command) f.behind) ∙ ap length f.ahead in
-        sym (ap (keep_last (length rest)) f.until ∙ keep_rest f.order.until (untils f.behind) (length rest) same)
+        let same : length (untils f.later) ≡ length rest =
+        map_length (λ (o : Order). o.until) f.later ∙ sym (map_length (λ (o : Order). o.command) f.later) ∙ ap length f.ahead in
+        sym (ap (keep_last (length rest)) f.until ∙ keep_rest f.order.until (untils f.later) (length rest) same)
 
     front_ends : (told' : List Ended) (back' : List Command) → Shares (s.ended ++ f.order ∷ []) told' back'
         → Stands accepted told' back' rest (keep_last (length rest) moments)
     front_ends told' back' each = record {
       ended = s.ended ++ f.order ∷ [];
-      still = f.behind;
+      still = f.later;
       whole = whole_is;
       each = each;
       ahead = f.ahead;
@@ -132,10 +132,10 @@ module _ (accepted : List Order) (told : List Ended) (back : List Command) (c : 
     number_is : (first next : ℕ) → AreNumbered first accepted → next ≡ first + length accepted → next - length rest - 1 ≡ f.order.number
     number_is first next are is =
         let numbered : f.order.number ≡ first + length s.ended =
-        number_at first s.ended f.order f.behind (subst (AreNumbered first) (whole_is ∙ append_assoc s.ended (f.order ∷ []) f.behind) are) in
-        let size : length accepted ≡ length ((s.ended ++ f.order ∷ []) ++ f.behind) = ap length whole_is in
-        let behind : length f.behind ≡ length rest = sym (map_length (λ (o : Order). o.command) f.behind) ∙ ap length f.ahead in
-        omega (arith, is, numbered, size, behind, length-append (s.ended ++ f.order ∷ []) f.behind, length-append s.ended (f.order ∷ []))
+        number_at first s.ended f.order f.later (subst (AreNumbered first) (whole_is ∙ append_assoc s.ended (f.order ∷ []) f.later) are) in
+        let size : length accepted ≡ length ((s.ended ++ f.order ∷ []) ++ f.later) = ap length whole_is in
+        let later : length f.later ≡ length rest = sym (map_length (λ (o : Order). o.command) f.later) ∙ ap length f.ahead in
+        omega (arith, is, numbered, size, later, length-append (s.ended ++ f.order ∷ []) f.later, length-append s.ended (f.order ∷ []))
 
     pub stands_told : (first next : ℕ) → AreNumbered first accepted → next ≡ first + length accepted
         → Stands accepted (told ++ record { number = next - length rest - 1; command = c } ∷ []) back rest (keep_last (length rest) moments)

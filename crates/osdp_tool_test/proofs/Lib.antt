@@ -13,4 +13,5 @@ pub mod Once
 pub mod OneLine
 pub mod OneReport
 mod ByRows
+mod Places
 mod Lists
